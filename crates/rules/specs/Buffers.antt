@@ -1,0 +1,92 @@
+-- Frames and maps as buffers: what a list of bytes or entries shows as a plane, and the list that a plane is written to.
+-- Then what Haze, Clear and Replace leave in them. Assumes nothing.
+use Prim.Native.Nat.{ℕ, zero, suc, _+_, _-_, _*_, _/_, _%_}
+use mathlib.Core.List.{List}
+use mathlib.Core.Bool.{Bool, cond, _&&_}
+use lib.ListN.{getD}
+use lib.Dec.{ltb, leb}
+use Rattle.rules.specs.Shape.{Shape}
+use Rattle.rules.specs.declared.Settings.{Settings}
+use Rattle.rules.specs.declared.Rgb.{Rgb}
+use Rattle.rules.specs.declared.Rect.{Rect}
+use Rattle.rules.specs.Window.{Plane, from}
+use Rattle.rules.specs.Light.{at}
+use Rattle.rules.specs.Transmission.{refined}
+use Rattle.rules.specs.Picture.{cleared, haze3}
+
+-- ---- a frame: row after row from the top, each pixel R, G, B
+
+-- the pixel at position p
+abbrev pub pixelAt : List ℕ → ℕ → Rgb
+pixelAt l p = record { r = getD l (3 * p) 0; g = getD l (3 * p + 1) 0; b = getD l (3 * p + 2) 0 }
+
+unfoldable pub pixels : Shape → List ℕ → Plane Rgb
+pixels z l y x = pixelAt l (y * z .w + x)
+
+abbrev pub channel : ℕ → Rgb → ℕ
+channel zero i = i .r
+channel (suc zero) i = i .g
+channel (suc (suc c)) i = i .b
+
+-- byte q of the frame that a plane is written to
+abbrev pub byteAt : Shape → Plane Rgb → ℕ → ℕ
+byteAt z f q = channel (q % 3) (at z f (q / 3))
+
+unfoldable pub bytes : Shape → Plane Rgb → List ℕ
+bytes z f = from 0 (3 * (z .w * z .h)) (byteAt z f)
+
+-- ---- a map: one entry a pixel, in row order
+
+unfoldable pub values : Shape → List ℕ → Plane ℕ
+values z l y x = getD l (y * z .w + x) 0
+
+unfoldable pub entries : Shape → Plane ℕ → List ℕ
+entries z f = from 0 (z .w * z .h) (at z f)
+
+-- ---- Haze
+
+unfoldable pub hazed : Shape → Rgb → List ℕ → List ℕ → List ℕ
+hazed z a clean map = bytes z (λ y x. haze3 a (pixels z clean y x) (values z map y x))
+
+-- ---- Clear
+
+-- what a run of calls goes on: the frame, its map and its cleared frame
+pub record State : Type 0 where
+  pub frame : List ℕ
+  pub map : List ℕ
+  pub picture : List ℕ
+
+unfoldable pub clear : Shape → Settings → Rgb → List ℕ → State
+clear z k a frame =
+    record { frame = frame; map = entries z (refined z k a (pixels z frame)); picture = bytes z (cleared z k a (pixels z frame)) }
+
+-- ---- Replace
+
+-- (y, x) is at most q rows and q columns from the rectangle; with q = 0, it lies in it
+unfoldable pub near : ℕ → Rect → ℕ → ℕ → Bool
+near q c y x = (leb (c .y) (y + q) && ltb y (c .y + c .h + q)) && (leb (c .x) (x + q) && ltb x (c .x + c .w + q))
+
+-- the new values where the test holds, the old ones elsewhere
+unfoldable pub patch : {A : Type 0} → (ℕ → ℕ → Bool) → Plane A → Plane A → Plane A
+patch t new old y x = cond (t y x) (new y x) (old y x)
+
+-- the rectangle's own pixels, at their places in the frame
+unfoldable pub placed : Rect → List ℕ → Plane Rgb
+placed c new y x = pixels (record { w = c .w; h = c .h }) new (y - c .y) (x - c .x)
+
+-- the frame with the new pixels
+abbrev pub pasted : Shape → Rect → List ℕ → List ℕ → List ℕ
+pasted z c new frame = bytes z (patch (near 0 c) (placed c new) (pixels z frame))
+
+abbrev pub reach : Settings → ℕ
+reach k = k .s + 2 * k .r
+
+unfoldable pub replace : Shape → Settings → Rgb → Rect → List ℕ → State → State
+replace z k a c new s =
+    let frame = pasted z c new (s .frame) in
+    let f = pixels z frame in
+    record {
+      frame = frame;
+      map = entries z (patch (near (reach k) c) (refined z k a f) (values z (s .map)));
+      picture = bytes z (patch (near (reach k) c) (cleared z k a f) (pixels z (s .picture)));
+    }

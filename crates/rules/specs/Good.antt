@@ -1,0 +1,36 @@
+-- What is known of a size, of settings, of a light and of a rectangle that are not refused. Assumes nothing.
+use Prim.Native.Nat.{_+_, _*_, _≤_, _<_}
+use Rattle.rules.specs.Shape.{Shape}
+use Rattle.rules.specs.declared.Settings.{Settings}
+use Rattle.rules.specs.declared.Rgb.{Rgb}
+use Rattle.rules.specs.declared.Rect.{Rect}
+
+pub record GoodSize (z : Shape) : Type 0 where
+  pub across : 0 < z .w
+  pub down : 0 < z .h
+  pub wide : z .w ≤ 1024
+  pub tall : z .h ≤ 1024
+  pub area : z .w * z .h ≤ 262144
+
+pub record GoodSettings (k : Settings) : Type 0 where
+  pub dark : k .s ≤ 30
+  pub near : k .r ≤ 60
+  pub omega-some : 0 < k .omega
+  pub omega-most : k .omega ≤ 10000
+  pub e-some : 0 < k .e
+  pub e-most : k .e ≤ 585225
+  pub floor-some : 0 < k .t0
+  pub floor-most : k .t0 ≤ 10000
+  pub share-some : 0 < k .share
+  pub share-most : k .share ≤ 1000
+
+pub record GoodLight (a : Rgb) : Type 0 where
+  pub red : 0 < a .r
+  pub green : 0 < a .g
+  pub blue : 0 < a .b
+
+pub record GoodRect (z : Shape) (c : Rect) : Type 0 where
+  pub some-w : 0 < c .w
+  pub some-h : 0 < c .h
+  pub across : c .x + c .w ≤ z .w
+  pub down : c .y + c .h ≤ z .h

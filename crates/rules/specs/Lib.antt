@@ -1,0 +1,14 @@
+-- Document 01 as definitions.
+pub mod Shape
+pub mod Window
+pub mod Fold
+pub mod Light
+pub mod Transmission
+pub mod Picture
+pub mod Buffers
+pub mod Box
+pub mod Good
+pub mod Refusals
+pub mod Promise
+pub mod Run
+pub mod Cases

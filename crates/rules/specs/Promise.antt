@@ -1,0 +1,106 @@
+-- What each operation promises, for every input: the answer, and what stands in each lent buffer afterwards. Assumes nothing.
+use mathlib.Core.Path.{_≡_}
+use Prim.Native.Nat.{ℕ, zero, suc}
+use mathlib.Core.List.{List, _++_}
+use lib.ListN.{length, drop, replicate}
+use lib.IntN.{ℤ, pos}
+use Rattle.rules.specs.Shape.{Shape, described, room}
+use Rattle.rules.specs.declared.Size.{Size}
+use Rattle.rules.specs.declared.Settings.{Settings}
+use Rattle.rules.specs.declared.Rgb.{Rgb}
+use Rattle.rules.specs.declared.Rect.{Rect}
+use Rattle.rules.specs.declared.Answer.{Answer}
+use Rattle.rules.specs.declared.Answer.the-variants as answer
+use Rattle.rules.specs.declared.Found.{Found}
+use Rattle.rules.specs.declared.Found.the-variants as found
+use Rattle.rules.specs.declared.Figure.{Figure}
+use Rattle.rules.specs.declared.Band.{Band}
+use Rattle.rules.specs.declared.Band.the-variants as band
+use Rattle.rules.specs.Light.{light}
+use Rattle.rules.specs.Picture.{figure}
+use Rattle.rules.specs.Buffers.{pixels, hazed, State, clear, replace}
+use Rattle.rules.specs.Refusals.{refuseLight, refuseClear, refuseReplace, refuseHaze, refuseBand}
+
+-- ---- the answers: the case for each number of the paper, 0 for an accepted call, with the values that it carries
+
+abbrev pub answered : ℕ → Answer
+answered zero = answer.Done
+answered (suc n) = answer.Refused (suc n)
+
+abbrev pub foundOr : ℕ → Rgb → Found
+foundOr zero a = found.Light a
+foundOr (suc n) a = found.Refused (suc n)
+
+abbrev pub figureOr : ℕ → Figure → Band
+figureOr zero f = band.Figure f
+figureOr (suc n) f = band.Refused (suc n)
+
+-- and the number that each case says
+abbrev pub said : Answer → ℕ
+said answer.Done = 0
+said (answer.Refused n) = n
+
+abbrev pub foundSaid : Found → ℕ
+foundSaid (found.Light a) = 0
+foundSaid (found.Refused n) = n
+
+abbrev pub bandSaid : Band → ℕ
+bandSaid (band.Figure f) = 0
+bandSaid (band.Refused n) = n
+
+-- ---- the buffers
+
+-- the new value of a call that is not refused, the old one of a call that is
+abbrev pub unless : {A : Type 0} → ℕ → A → A → A
+unless zero new old = new
+unless (suc n) new old = old
+
+-- the work area after an accepted call
+unfoldable pub wiped : Shape → List ℤ → List ℤ
+wiped z work = replicate (room z) (pos 0) ++ drop (room z) work
+
+-- all that Clear and Replace are lent and may write
+pub record Lent : Type 0 where
+  pub frame : List ℕ
+  pub map : List ℕ
+  pub picture : List ℕ
+  pub work : List ℤ
+
+abbrev pub state : Lent → State
+state l = record { frame = l .frame; map = l .map; picture = l .picture }
+
+abbrev pub lent : State → List ℤ → Lent
+lent s work = record { frame = s .frame; map = s .map; picture = s .picture; work = work }
+
+-- the refusal number of a call on these buffers
+abbrev pub noClear : Size → Settings → Rgb → Lent → ℕ
+noClear z k a l = refuseClear z k a (length (l .frame)) (length (l .map)) (length (l .picture)) (length (l .work))
+
+abbrev pub noReplace : Size → Settings → Rgb → Rect → List ℕ → Lent → ℕ
+noReplace z k a c new l = refuseReplace z k a c (length new) (length (l .frame)) (length (l .map)) (length (l .picture)) (length (l .work))
+
+-- ---- the promises
+
+-- Light: work is the work area before, work′ afterwards
+pub record Lights (z : Size) (k : Settings) (frame : List ℕ) (work : List ℤ) (r : Found) (work′ : List ℤ) : Type 0 where
+  pub answer : r ≡ foundOr (refuseLight z k (length frame) (length work)) (light (described z) k (pixels (described z) frame))
+  pub after : work′ ≡ unless (refuseLight z k (length frame) (length work)) (wiped (described z) work) work
+
+-- Clear: l is what stood in the buffers, m what stands there afterwards
+pub record Clears (z : Size) (k : Settings) (a : Rgb) (l : Lent) (r : Answer) (m : Lent) : Type 0 where
+  pub answer : r ≡ answered (noClear z k a l)
+  pub after : m ≡ unless (noClear z k a l) (lent (clear (described z) k a (l .frame)) (wiped (described z) (l .work))) l
+
+-- Replace: c is the rectangle, new its pixels
+pub record Replaces (z : Size) (k : Settings) (a : Rgb) (c : Rect) (new : List ℕ) (l : Lent) (r : Answer) (m : Lent) : Type 0 where
+  pub answer : r ≡ answered (noReplace z k a c new l)
+  pub after : m ≡ unless (noReplace z k a c new l) (lent (replace (described z) k a c new (state l)) (wiped (described z) (l .work))) l
+
+-- Haze: out is the lent frame before, out′ afterwards
+pub record Hazes (z : Size) (a : Rgb) (clean map out : List ℕ) (r : Answer) (out′ : List ℕ) : Type 0 where
+  pub answer : r ≡ answered (refuseHaze z a (length clean) map (length out))
+  pub after : out′ ≡ unless (refuseHaze z a (length clean) map (length out)) (hazed (described z) a clean map) out
+
+-- Band figure: nothing is written
+pub record Bands (z : Size) (map : List ℕ) (start end : ℕ) (r : Band) : Type 0 where
+  pub answer : r ≡ figureOr (refuseBand z map start end) (figure (described z) map start end)

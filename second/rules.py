@@ -1,0 +1,549 @@
+"""The rules of the haze library, written a second time in plain Python.
+
+This file holds the five operations Light, Clear, Replace, Haze and Band
+figure, with their refusals.  It follows document 01 heading by heading, with
+the paper's words as names and its step numbers in the comments.
+
+What every operation returns is a pair (number, values):
+    accepted   (0, values)
+    refused    (number, None), the number from the table of refusals
+The values of an accepted call:
+    light      (R, G, B)
+    clear      (map, picture)
+    replace    (frame, map, picture)
+    haze       the hazed frame
+    band       (mean, least), two floats
+No list that is given is ever changed.  The answers are new lists.
+
+What is given:
+    size       (W, H)
+    settings   (s, r, omega, E, t0, share)
+    light      (R, G, B), each a byte
+    rect       (column, row, width, height)
+    frame, clean, picture, new    lists of bytes, R, G, B for each pixel
+    map        list of 16-bit entries, one for each pixel
+    ..._len    the length of a buffer that is lent to be written
+Sizes, settings, rectangles, bands and lengths may be any whole numbers that
+are not negative.
+
+All arithmetic is on whole numbers of any length, so nothing can overflow.
+Only the Band figure has floats.  Every sum and every minimum is a direct one
+over the window, cut off at the frame's edge.
+
+The last part holds a plain path: Light and Clear once more, pixel by pixel,
+on exact fractions.  It is slow and shares no function with the first path.
+"""
+
+from fractions import Fraction
+from math import floor, trunc
+
+
+# ---------------------------------------------------------------------------
+# Numbers that are kept
+# ---------------------------------------------------------------------------
+
+SIDES = (1, 1024)
+MOST_PIXELS = 262144
+SETTINGS = (
+    (0, 30),        # dark radius s
+    (0, 60),        # filter radius r
+    (1, 10000),     # omega
+    (1, 585225),    # regularisation E
+    (1, 10000),     # floor t0
+    (1, 1000),      # share, per thousand
+)
+DEFAULTS = (7, 30, 9500, 59, 1000, 1)
+LARGEST_ENTRY = 10000
+
+
+def work_needed(size):
+    """The fewest entries a work area may have."""
+    W, H = size
+    return 8 * (W + 1) * (H + 1)
+
+
+def work_after(size, work):
+    """What a lent work area holds after any accepted call."""
+    first = work_needed(size)
+    return [0] * first + list(work[first:])
+
+
+# ---------------------------------------------------------------------------
+# What a refused call says
+# ---------------------------------------------------------------------------
+
+def within(value, bounds):
+    """Whether a value lies in a range, both ends belonging to it."""
+    return bounds[0] <= value <= bounds[1]
+
+
+def size_is_outside(size):
+    """1: W, H or W*H is outside its range."""
+    W, H = size
+    return not (within(W, SIDES) and within(H, SIDES) and W * H <= MOST_PIXELS)
+
+
+def setting_is_outside(settings):
+    """2: a setting is outside its range.  All six count, used or not."""
+    return not all(within(value, bounds) for value, bounds in zip(settings, SETTINGS))
+
+
+def frame_is_not_whole(size, length):
+    """3, and 4 for a frame that is written: not 3*W*H bytes."""
+    W, H = size
+    return length != 3 * W * H
+
+
+def map_is_not_whole(size, length):
+    """4: not W*H entries."""
+    W, H = size
+    return length != W * H
+
+
+def work_is_short(size, length):
+    """4: fewer than 8*(W+1)*(H+1) entries.  More are allowed."""
+    return length < work_needed(size)
+
+
+def channel_is_0(light):
+    """5: a light channel is 0."""
+    return 0 in light
+
+
+def rectangle_is_bad(size, rect):
+    """6: the rectangle is empty or reaches outside the frame."""
+    W, H = size
+    column, row, width, height = rect
+    empty = width == 0 or height == 0
+    outside = column + width > W or row + height > H
+    return empty or outside
+
+
+def band_is_bad(size, start, end):
+    """6: the band is empty or reaches outside the frame."""
+    W, H = size
+    return start >= end or end > H
+
+
+def new_is_not_whole(rect, length):
+    """7: not 3*w*h bytes for a w by h rectangle."""
+    column, row, width, height = rect
+    return length != 3 * width * height
+
+
+def entry_is_above(map):
+    """8: a map entry is above 10,000, anywhere in the map."""
+    return any(entry > LARGEST_ENTRY for entry in map)
+
+
+def lowest_that_applies(faults):
+    """The lowest number whose fault is there, 0 if none is."""
+    return min((number for number, there in faults.items() if there), default=0)
+
+
+# ---------------------------------------------------------------------------
+# Windows
+# ---------------------------------------------------------------------------
+
+def pieces(line, q, combine):
+    """For each place of a line, its piece of radius q, combined.
+
+    The piece is cut off at both ends of the line.
+    """
+    return [combine(line[max(0, i - q):i + q + 1]) for i in range(len(line))]
+
+
+def over_windows(size, plane, q, combine):
+    """For each pixel, the window of radius q, combined (sum or min).
+
+    Each row piece is combined directly, then each column of row pieces.
+    """
+    W, H = size
+    rows = [pieces(plane[y * W:(y + 1) * W], q, combine) for y in range(H)]
+    columns = [pieces(column, q, combine) for column in zip(*rows)]
+    return [value for row in zip(*columns) for value in row]
+
+
+def window_sizes(size, q):
+    """For each pixel, the number n of pixels its window really has."""
+    W, H = size
+    return [rows * columns
+            for rows in pieces([1] * H, q, len)
+            for columns in pieces([1] * W, q, len)]
+
+
+def pixels(frame):
+    """The frame as a list of (R, G, B)."""
+    return list(zip(frame[0::3], frame[1::3], frame[2::3]))
+
+
+# ---------------------------------------------------------------------------
+# From frame to light
+# ---------------------------------------------------------------------------
+
+def dark_values(size, s, frame):
+    # Step 1.  The least byte of all channels in the window of radius s.
+    least_bytes = [min(pixel) for pixel in pixels(frame)]
+    return over_windows(size, least_bytes, s, min)
+
+
+def candidate_count(size, share):
+    # Step 2, first half.
+    W, H = size
+    return max(1, W * H * share // 1000)
+
+
+def candidates(dark, m):
+    # Step 2, second half.  Greater dark value first, then lower position.
+    ranked = sorted(range(len(dark)), key=lambda position: (-dark[position], position))
+    return ranked[:m]
+
+
+def brightest(frame, chosen):
+    # Step 3.  The greatest R+G+B, lowest position on a tie.
+    colours = pixels(frame)
+    best = min(chosen, key=lambda position: (-sum(colours[position]), position))
+    return colours[best]
+
+
+def light_by_rules(size, settings, frame):
+    """The light of a frame that is not refused."""
+    s, r, omega, E, t0, share = settings
+    dark = dark_values(size, s, frame)
+    chosen = candidates(dark, candidate_count(size, share))
+    # Step 3, last sentence.  A channel of 0 becomes 1.
+    return tuple(max(1, channel) for channel in brightest(frame, chosen))
+
+
+def light(size, settings, frame, work_len):
+    """Light: finds the ambient light of a frame."""
+    number = lowest_that_applies({
+        1: size_is_outside(size),
+        2: setting_is_outside(settings),
+        3: frame_is_not_whole(size, len(frame)),
+        4: work_is_short(size, work_len),
+    })
+    if number:
+        return number, None
+    return 0, light_by_rules(size, settings, frame)
+
+
+# ---------------------------------------------------------------------------
+# From light to transmission
+# ---------------------------------------------------------------------------
+
+def ratio(I, A):
+    # Step 1, first sentence.
+    return min(10000, 10000 * I // A)
+
+
+def least_ratios(size, s, light, frame):
+    # Step 1, second sentence.  The values d.
+    least = [min(ratio(I, A) for I, A in zip(pixel, light)) for pixel in pixels(frame)]
+    return over_windows(size, least, s, min)
+
+
+def coarse_transmission(omega, d):
+    # Step 2.
+    return 10000 - omega * d // 10000
+
+
+def guides(frame):
+    # Step 3.  R+G+B.
+    return [sum(pixel) for pixel in pixels(frame)]
+
+
+def slope(n, Sg, St, Sgg, Sgt, E):
+    # Step 4, P and Q, and step 5, first half.  // goes toward minus infinity.
+    P = n * Sgt - Sg * St
+    Q = n * Sgg - Sg * Sg + n * n * E
+    return 1024 * P // Q
+
+
+def offset(n, Sg, St, a):
+    # Step 5, second half.  The slope a is the floored one.
+    return (1024 * St - a * Sg) // n
+
+
+def slopes_and_offsets(size, r, E, guide, coarse):
+    # Step 4.  The sums over the window of radius r.
+    n = window_sizes(size, r)
+    Sg = over_windows(size, guide, r, sum)
+    St = over_windows(size, coarse, r, sum)
+    Sgg = over_windows(size, [g * g for g in guide], r, sum)
+    Sgt = over_windows(size, [g * t for g, t in zip(guide, coarse)], r, sum)
+    # Step 5.
+    a = [slope(*sums, E) for sums in zip(n, Sg, St, Sgg, Sgt)]
+    b = [offset(*sums) for sums in zip(n, Sg, St, a)]
+    return a, b
+
+
+def refined_before_holding(size, r, guide, a, b):
+    # Step 6 without its last words.
+    n = window_sizes(size, r)
+    sum_a = over_windows(size, a, r, sum)
+    sum_b = over_windows(size, b, r, sum)
+    return [(A * g + B) // (1024 * count)
+            for A, g, B, count in zip(sum_a, guide, sum_b, n)]
+
+
+def held(value, least, greatest):
+    """A value held into a range."""
+    return max(least, min(greatest, value))
+
+
+def coarse_values(size, settings, light, frame):
+    # Steps 1 and 2.
+    s, r, omega, E, t0, share = settings
+    return [coarse_transmission(omega, d) for d in least_ratios(size, s, light, frame)]
+
+
+def map_by_rules(size, settings, light, frame):
+    """The transmission map of a frame that is not refused."""
+    s, r, omega, E, t0, share = settings
+    coarse = coarse_values(size, settings, light, frame)
+    guide = guides(frame)
+    a, b = slopes_and_offsets(size, r, E, guide, coarse)
+    # Step 6, last words.
+    return [held(value, 0, 10000)
+            for value in refined_before_holding(size, r, guide, a, b)]
+
+
+# ---------------------------------------------------------------------------
+# From transmission to picture, and back
+# ---------------------------------------------------------------------------
+
+def cut_toward_zero(top, bottom):
+    """The quotient of two whole numbers, bottom above 0, cut toward zero."""
+    if top < 0:
+        return -(-top // bottom)
+    return top // bottom
+
+
+def cleared_channel(I, A, T):
+    """One channel of the cleared frame."""
+    return held(A + cut_toward_zero((I - A) * 10000, T), 0, 255)
+
+
+def picture_by_rules(light, t0, frame, map):
+    """The cleared frame."""
+    return [cleared_channel(I, A, max(entry, t0))
+            for pixel, entry in zip(pixels(frame), map)
+            for I, A in zip(pixel, light)]
+
+
+def clear_by_rules(size, settings, light, frame):
+    """Map and picture of a frame that is not refused."""
+    s, r, omega, E, t0, share = settings
+    map = map_by_rules(size, settings, light, frame)
+    return map, picture_by_rules(light, t0, frame, map)
+
+
+def clear(size, settings, light, frame, map_len, picture_len, work_len):
+    """Clear: frame, light and settings in; map and cleared frame out."""
+    number = lowest_that_applies({
+        1: size_is_outside(size),
+        2: setting_is_outside(settings),
+        3: frame_is_not_whole(size, len(frame)),
+        4: (frame_is_not_whole(size, picture_len)
+            or map_is_not_whole(size, map_len)
+            or work_is_short(size, work_len)),
+        5: channel_is_0(light),
+    })
+    if number:
+        return number, None
+    return 0, clear_by_rules(size, settings, light, frame)
+
+
+def hazed_channel(J, A, t):
+    """One channel of the hazed frame."""
+    return (J * t + A * (10000 - t) + 5000) // 10000
+
+
+def haze(size, light, clean, map, hazed_len):
+    """Haze: clean frame, light and map in; hazy frame out."""
+    number = lowest_that_applies({
+        1: size_is_outside(size),
+        3: frame_is_not_whole(size, len(clean)),
+        4: frame_is_not_whole(size, hazed_len) or map_is_not_whole(size, len(map)),
+        5: channel_is_0(light),
+        8: entry_is_above(map),
+    })
+    if number:
+        return number, None
+    return 0, [hazed_channel(J, A, t)
+               for pixel, t in zip(pixels(clean), map)
+               for J, A in zip(pixel, light)]
+
+
+def with_new_pixels(size, rect, new, frame):
+    """The frame with the new pixels at their rectangle."""
+    W, H = size
+    column, row, width, height = rect
+    after = list(frame)
+    for y in range(height):
+        for x in range(width):
+            here = 3 * ((row + y) * W + column + x)
+            there = 3 * (y * width + x)
+            after[here:here + 3] = new[there:there + 3]
+    return after
+
+
+def is_reached(rect, reach, x, y):
+    """Whether a pixel is at most reach rows and reach columns from the rectangle."""
+    column, row, width, height = rect
+    return (column - reach <= x <= column + width - 1 + reach
+            and row - reach <= y <= row + height - 1 + reach)
+
+
+def replace(size, settings, light, rect, new, frame, map, picture, work_len):
+    """Replace: new pixels into a frame, map and cleared frame brought up to date."""
+    number = lowest_that_applies({
+        1: size_is_outside(size),
+        2: setting_is_outside(settings),
+        3: frame_is_not_whole(size, len(frame)),
+        4: (frame_is_not_whole(size, len(picture))
+            or map_is_not_whole(size, len(map))
+            or work_is_short(size, work_len)),
+        5: channel_is_0(light),
+        6: rectangle_is_bad(size, rect),
+        7: new_is_not_whole(rect, len(new)),
+    })
+    if number:
+        return number, None
+    W, H = size
+    s, r, omega, E, t0, share = settings
+    # The new pixels go in, the others stay.
+    new_frame = with_new_pixels(size, rect, new, frame)
+    # What Clear would give for the whole new frame.
+    clear_map, clear_picture = clear_by_rules(size, settings, light, new_frame)
+    # Within s+2r the values become those, all others stay.
+    new_map, new_picture = list(map), list(picture)
+    for p in range(W * H):
+        if is_reached(rect, s + 2 * r, p % W, p // W):
+            new_map[p] = clear_map[p]
+            new_picture[3 * p:3 * p + 3] = clear_picture[3 * p:3 * p + 3]
+    return 0, (new_frame, new_map, new_picture)
+
+
+def band(size, map, start, end):
+    """Band figure: mean and least of the rows start..end, the last left out.
+
+    Python's / of two whole numbers is correctly rounded: it is the double
+    nearest to the true quotient.  All four numbers are below 2**53, so they
+    go into doubles without loss, and a division of doubles gives the same bits.
+    """
+    number = lowest_that_applies({
+        1: size_is_outside(size),
+        4: map_is_not_whole(size, len(map)),
+        6: band_is_bad(size, start, end),
+        8: entry_is_above(map),
+    })
+    if number:
+        return number, None
+    W, H = size
+    entries = map[start * W:end * W]
+    return 0, (sum(entries) / (10000 * len(entries)), min(entries) / 10000)
+
+
+# ---------------------------------------------------------------------------
+# The plain path: the same rules, pixel by pixel, on exact fractions.
+# It is for small frames.  floor and trunc of a Fraction are exact.
+# ---------------------------------------------------------------------------
+
+def plain_window(size, position, q):
+    """Every position of the frame at most q rows and q columns away."""
+    W, H = size
+    return [other for other in range(W * H)
+            if abs(other // W - position // W) <= q
+            and abs(other % W - position % W) <= q]
+
+
+def plain_light(size, settings, frame):
+    """Steps 1 to 3 of "From frame to light"."""
+    W, H = size
+    s, r, omega, E, t0, share = settings
+    # Step 1.
+    dark = []
+    for p in range(W * H):
+        dark.append(min(frame[3 * k + c] for k in plain_window(size, p, s) for c in (0, 1, 2)))
+    # Step 2.  A pixel is a candidate where fewer than m are ranked before it.
+    m = floor(Fraction(W * H * share, 1000))
+    if m < 1:
+        m = 1
+    chosen = []
+    for p in range(W * H):
+        before = [k for k in range(W * H)
+                  if dark[k] > dark[p] or (dark[k] == dark[p] and k < p)]
+        if len(before) < m:
+            chosen.append(p)
+    # Step 3.  Positions come in order, so only a greater sum takes over.
+    best = chosen[0]
+    for p in chosen:
+        if sum(frame[3 * p:3 * p + 3]) > sum(frame[3 * best:3 * best + 3]):
+            best = p
+    return tuple(1 if byte == 0 else byte for byte in frame[3 * best:3 * best + 3])
+
+
+def plain_slopes_and_offsets(size, settings, light, frame):
+    """Steps 1 to 5 of "From light to transmission"."""
+    W, H = size
+    s, r, omega, E, t0, share = settings
+    guide, coarse, slopes, offsets = [], [], [], []
+    for p in range(W * H):
+        # Step 1.
+        d = 10000
+        for k in plain_window(size, p, s):
+            for c in (0, 1, 2):
+                d = min(d, floor(Fraction(10000 * frame[3 * k + c], light[c])))
+        # Step 2.
+        coarse.append(10000 - floor(Fraction(omega * d, 10000)))
+        # Step 3.
+        guide.append(frame[3 * p] + frame[3 * p + 1] + frame[3 * p + 2])
+    for p in range(W * H):
+        # Step 4.
+        n = Sg = St = Sgg = Sgt = 0
+        for k in plain_window(size, p, r):
+            n += 1
+            Sg += guide[k]
+            St += coarse[k]
+            Sgg += guide[k] ** 2
+            Sgt += guide[k] * coarse[k]
+        P = n * Sgt - Sg * St
+        Q = n * Sgg - Sg ** 2 + n ** 2 * E
+        # Step 5.
+        a = floor(Fraction(1024 * P, Q))
+        slopes.append(a)
+        offsets.append(floor(Fraction(1024 * St - a * Sg, n)))
+    return guide, slopes, offsets
+
+
+def plain_clear(size, settings, light, frame):
+    """Step 6, and Clear of "From transmission to picture, and back"."""
+    W, H = size
+    s, r, omega, E, t0, share = settings
+    guide, slopes, offsets = plain_slopes_and_offsets(size, settings, light, frame)
+    map, picture = [], []
+    for p in range(W * H):
+        # Step 6.
+        n = total = 0
+        for k in plain_window(size, p, r):
+            n += 1
+            total += slopes[k] * guide[p] + offsets[k]
+        t = floor(Fraction(total, 1024 * n))
+        if t < 0:
+            t = 0
+        if t > 10000:
+            t = 10000
+        map.append(t)
+        # Clear.
+        T = t if t > t0 else t0
+        for c in (0, 1, 2):
+            I, A = frame[3 * p + c], light[c]
+            value = A + trunc(Fraction((I - A) * 10000, T))
+            if value < 0:
+                value = 0
+            if value > 255:
+                value = 255
+            picture.append(value)
+    return map, picture
