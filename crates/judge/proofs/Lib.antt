@@ -1,0 +1,3 @@
+-- The judge's laws, and what its callers know.
+pub mod Laws
+pub mod Accepted

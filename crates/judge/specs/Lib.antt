@@ -1,0 +1,2 @@
+-- The definitions that the judge's contracts cite.
+pub mod Past

@@ -1,0 +1,2 @@
+-- The laws of one pixel's arithmetic.
+pub mod Sizes

@@ -1,0 +1,52 @@
+-- `pixel::hold` meets its contract. Assumes nothing.
+use mathlib.Core.Path.{_≡_, refl, _∙_}
+use mathlib.Core.Bool.{true, false, true≢false}
+use Prim.Native.Nat.{min}
+use native.Mathlib.Nat.{not-suc-le-zero}
+use native.Mathlib.Omega.{arith}
+use borrow.Author.Needs.{needs}
+use borrow.Author.Tests.{ltb-true}
+use lib.IntN.{ℤ, pos, negsuc, natAbs}
+use lib.Signed.{ltZ, nonNeg}
+use lib.Dec.{T}
+use mir.Syntax.{w64}
+use mir.Val.{SFits, Fits, toZ, ofZ}
+use Rattle.rules.specs.Transmission.{held}
+use Rattle.rules.proofs.Integers.{back}
+use Rattle.pixel.proofs.hold.Statement.{statement}
+use Rattle.pixel.proofs.hold.Tie as tie
+
+below : (v : ℤ) → ltZ v (pos 0) ≡ true → 0 ≡ held 10000 v
+below (pos a) t = absurd (not-suc-le-zero (ltb-true a 0 t))
+below (negsuc a) t = refl
+
+plain : (v : ℤ) → ltZ v (pos 0) ≡ false → SFits w64 v → T (nonNeg v) × Fits w64 (natAbs v)
+plain (pos a) t f = (tt, record { fits = omega (arith, f .sfits) })
+plain (negsuc a) t f = absurd (true≢false t)
+
+above : (v : ℤ) → ltZ v (pos 0) ≡ false → min (natAbs v) 10000 ≡ held 10000 v
+above (pos a) t = refl
+above (negsuc a) t = absurd (true≢false t)
+
+v-back : (s : tie.Start) → toZ w64 (ofZ w64 (s .args .v)) ≡ s .args .v
+v-back s = back (s .args .v) (s .fits .v)
+
+test : (c : tie.Else1) → ltZ (c .before .args .v) (pos 0) ≡ false
+test c = rw (v-back (c .before)) at (c .if1 .left)
+
+returns : tie.Need-returns
+returns c = below (c .before .args .v) (rw (v-back (c .before)) at (c .if1 .taken))
+
+cast-lesser : tie.Need-cast-lesser
+cast-lesser c = rw (v-back (c .before)) (plain (c .before .args .v) (test c) (c .before .fits .v))
+
+lesser-requires : tie.Need-lesser-requires
+lesser-requires c κs = search needs
+
+returns-2 : tie.Need-returns-2
+returns-2 c =
+    let e = above (c .before .before .args .v) (test (c .before)) in
+    rw (v-back (c .before .before)) at (c .lesser .ensures) ∙ e
+
+pub hold-spec : {M : Type 1} → statement M
+hold-spec = tie.close (tie.spec returns cast-lesser lesser-requires returns-2)

@@ -1,0 +1,2 @@
+-- The definitions that the contracts of one pixel's arithmetic cite.
+pub mod Moments

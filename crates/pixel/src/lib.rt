@@ -1,0 +1,162 @@
+// One pixel's arithmetic, as document 01 has it. Every whole-number division of the library is here, each in one function, and in 32 bits
+// where the numbers are small, since that is quicker.
+ghost use mathlib.Core.Path.{_≡_};
+ghost use Prim.Native.Nat.{_+_, _*_, _/_, _^_, _≤_, _<_, min};
+ghost use lib.ListN.{length};
+ghost use lib.IntN.{natAbs};
+ghost use lib.Signed.{shrZ};
+ghost use Rattle.rules.specs.Good.{GoodLight};
+ghost use Rattle.rules.specs.Light.{darkest, guide};
+ghost use Rattle.rules.specs.Transmission.{ratio, leastRatio, coarseOf, slopeOf, offsetOf, refineOf, held};
+ghost use Rattle.rules.specs.Picture.{recover, haze};
+ghost use Rattle.rules.specs.Buffers.{pixelAt};
+ghost use Rattle.pixel.specs.Moments.{Moments};
+use rules::Rgb;
+
+// ---- what is read of a pixel
+
+// The pixel at position p of a frame.
+pub fn pixel_at(frame: &[u8], p: usize) -> Rgb
+    requires { ⌜ 3 * p + 3 ≤ length (now frame) ⌝ }
+    ensures { λ r. ⌜ r ≡ pixelAt (now (frame .entry)) p ⌝ }
+{
+    let q = 3 * p;
+    Rgb {
+        r: frame[q],
+        g: frame[q + 1],
+        b: frame[q + 2],
+    }
+}
+
+fn lesser(x: u64, y: u64) -> u64
+    ensures { λ r. ⌜ r ≡ min x y ⌝ }
+{
+    if x <= y { x } else { y }
+}
+
+// The least of the three bytes.
+pub fn darkest_of(i: Rgb) -> u64
+    ensures { λ r. ⌜ r ≡ darkest i ⌝ }
+{
+    lesser(i.r as u64, lesser(i.g as u64, i.b as u64))
+}
+
+// The guide: R+G+B.
+pub fn guide_of(i: Rgb) -> u64
+    ensures { λ r. ⌜ (r ≡ guide i) × (r ≤ 765) ⌝ }
+{
+    (i.r as u64) + (i.g as u64) + (i.b as u64)
+}
+
+// ---- from light to transmission
+
+// Ratio of a byte i under light a.
+fn ratio_of(i: u8, a: u8) -> u64
+    requires { ⌜ 0 < a ⌝ }
+    ensures { λ r. ⌜ r ≡ ratio i a ⌝ }
+{
+    lesser((10000 * (i as u32) / (a as u32)) as u64, 10000)
+}
+
+// The least ratio over the channels.
+pub fn least_ratio(i: Rgb, a: Rgb) -> u64
+    requires { ⌜ GoodLight a ⌝ }
+    ensures { λ r. ⌜ r ≡ leastRatio a i ⌝ }
+{
+    lesser(
+        ratio_of(i.r, a.r),
+        lesser(ratio_of(i.g, a.g), ratio_of(i.b, a.b)),
+    )
+}
+
+// Coarse transmission, from the least ratio d of a window.
+pub fn coarse_of(omega: u64, d: u64) -> u64
+    requires { ⌜ (omega ≤ 10000) × (d ≤ 10000) ⌝ }
+    ensures { λ r. ⌜ r ≡ coarseOf omega d ⌝ }
+{
+    (10000 - (omega as u32) * (d as u32) / 10000) as u64
+}
+
+// The quotient rounded down.
+fn floor_div(p: i64, q: u64) -> i64
+    requires { ⌜ (0 < q) × (q < 2 ^ 63) ⌝ }
+    ensures { λ r. ⌜ r ≡ shrZ p q ⌝ }
+{
+    let d = q as i64;
+    if p < 0 { -1 - (-1 - p) / d } else { p / d }
+}
+
+// The slope of the line that fits a window.
+pub fn slope(n: u64, sg: u64, st: u64, sgg: u64, sgt: u64, e: u64) -> i64
+    requires { ⌜ Moments n sg st sgg sgt × (0 < e) × (e ≤ 585225) ⌝ }
+    ensures exact { λ r. ⌜ r ≡ slopeOf n sg st sgg sgt e ⌝ }
+    ensures small { λ r. ⌜ natAbs r ≤ 7833600000 ⌝ }
+{
+    let p = (n * sgt) as i64 - (sg * st) as i64;
+    floor_div(1024 * p, n * sgg - sg * sg + n * n * e)
+}
+
+// The offset of the line that fits a window, from its slope a.
+pub fn offset(n: u64, sg: u64, st: u64, a: i64) -> i64
+    requires { ⌜ (0 < n) × (n ≤ 14641) × (sg ≤ 765 * n) × (st ≤ 10000 * n) × (natAbs a ≤ 7833600000) ⌝ }
+    ensures exact { λ r. ⌜ r ≡ offsetOf n sg st a ⌝ }
+    ensures small { λ r. ⌜ natAbs r ≤ 7000000000000 ⌝ }
+{
+    floor_div((1024 * st) as i64 - a * (sg as i64), n)
+}
+
+// A number held into 0 .. 10,000.
+fn hold(v: i64) -> u64
+    ensures { λ r. ⌜ r ≡ held 10000 v ⌝ }
+{
+    if v < 0 {
+        return 0;
+    }
+    lesser(v as u64, 10000)
+}
+
+// The refined value of a pixel, from the sums of slopes and offsets over its window and its own guide.
+pub fn refined(n: u64, sa: i64, sb: i64, g: u64) -> u64
+    requires { ⌜ (0 < n) × (n ≤ 14641) × (g ≤ 765) × (natAbs sa ≤ 7833600000 * n) × (natAbs sb ≤ 7000000000000 * n) ⌝ }
+    ensures { λ r. ⌜ r ≡ refineOf n sa sb g ⌝ }
+{
+    hold(floor_div(sa * (g as i64) + sb, 1024 * n))
+}
+
+// ---- from transmission to picture, and back
+
+// How far a byte that is d from the light is from it without the haze.
+fn stretched(d: u32, t: u32) -> u32
+    requires { ⌜ (d ≤ 255) × (0 < t) ⌝ }
+    ensures { λ r. ⌜ (r ≡ d * 10000 / t) × (r ≤ 2550000) ⌝ }
+{
+    d * 10000 / t
+}
+
+// A byte without the haze: byte i under light a at transmission t.
+pub fn recovered(a: u8, i: u8, t: u64) -> u8
+    requires { ⌜ (0 < t) × (t ≤ 10000) ⌝ }
+    ensures { λ r. ⌜ r ≡ recover a i t ⌝ }
+{
+    let light = a as u32;
+    let byte = i as u32;
+    let whole = t as u32;
+    if light <= byte {
+        let v = light + stretched(byte - light, whole);
+        return lesser(v as u64, 255) as u8;
+    }
+    let q = stretched(light - byte, whole);
+    if q < light {
+        return (light - q) as u8;
+    }
+    0
+}
+
+// A byte with haze: clean byte j under light a at transmission t.
+pub fn hazed(a: u8, j: u8, t: u64) -> u8
+    requires { ⌜ t ≤ 10000 ⌝ }
+    ensures { λ r. ⌜ r ≡ haze a j t ⌝ }
+{
+    let part = t as u32;
+    (((j as u32) * part + (a as u32) * (10000 - part) + 5000) / 10000) as u8
+}

@@ -1,0 +1,4 @@
+-- Laws of the sums.
+pub mod Runs
+pub mod Rows
+pub mod Windows

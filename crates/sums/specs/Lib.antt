@@ -1,0 +1,2 @@
+-- The definitions that the contracts of the sums cite.
+pub mod Sum

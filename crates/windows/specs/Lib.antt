@@ -1,0 +1,7 @@
+-- The definitions that the contracts of the window minimum cite.
+pub mod Lower
+pub mod Span
+pub mod Blocks
+pub mod Count
+pub mod Line
+pub mod Plane
