@@ -1,0 +1,3 @@
+-- The laws of the band figure.
+pub mod Quotient
+pub mod Laws

@@ -1,0 +1,2 @@
+-- The definitions that the contracts of the band figure cite.
+pub mod Steer

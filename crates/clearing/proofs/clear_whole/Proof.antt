@@ -1,0 +1,43 @@
+-- `clearing::clear_whole` meets its contract: the whole frame is a box that sees all. Assumes nothing.
+use mathlib.Core.Path.{_∙_}
+use Rattle.rules.specs.Shape.{described}
+use Rattle.rules.specs.Transmission.{refined}
+use Rattle.rules.specs.Picture.{cleared}
+use Rattle.rules.specs.Buffers.{pixels, values, clear, reach}
+use Rattle.clearing.proofs.Grown.{covers-all, whole-target, entries-all, bytes-all}
+use borrow.Author.Needs.{needs}
+use Rattle.clearing.proofs.clear_whole.Statement.{statement}
+use Rattle.clearing.proofs.clear_whole.Tie as tie
+
+refresh-requires : tie.Need-refresh-requires
+refresh-requires c κs =
+    let s = c .before .before .before .before .before .before in
+    let d = s .args in
+    let z = described (d .z) in
+    let l = s .pre .1 in
+    (s .pre .0, (whole-target z (d .map .now) (d .picture .now) (l .entries) (l .bytes), (covers-all z (reach (d .k)), l .space)))
+
+same-length : tie.Need-same-length
+same-length c = search needs
+
+same-length-2 : tie.Need-same-length-2
+same-length-2 c = search needs
+
+same-length-3 : tie.Need-same-length-3
+same-length-3 c = search needs
+
+returns : tie.Need-returns
+unfolding clear
+returns c =
+    let r = c .before .before .before .before .before .refresh in
+    let d = c .before .before .before .before .before .before .before .before .before .before .before .before .args in
+    let z = described (d .z) in
+    let f = pixels z (d .frame .now) in
+    let m = r .ensures .0 ∙ entries-all z (refined z (d .k) (d .a) f) (values z (d .map .now)) in
+    let p = r .ensures .1 .0 ∙ bytes-all z (cleared z (d .k) (d .a) f) (pixels z (d .picture .now)) in
+    let w = r .ensures .1 .1 in
+    λ i. record { frame = d .frame .now; map = m i; picture = p i; work = w i }
+
+pub clear-whole-spec : {M : Type 1} → statement M
+clear-whole-spec =
+    tie.close (tie.spec refresh-requires same-length same-length-2 same-length-3 returns)

@@ -1,0 +1,2 @@
+-- What the contracts of Clear and Replace speak of, besides the rules.
+pub mod Call

@@ -1,0 +1,2 @@
+-- Laws of calls that are not refused.
+pub mod Accepted

@@ -1,0 +1,96 @@
+// The public calls. None asks anything of its caller: each promises, for every input, what it answers and what stands in the lent memory afterwards.
+ghost use Prim.Native.Nat.{ℕ};
+ghost use Rattle.rules.specs.Promise.{Lights, Clears, Replaces, Hazes, Bands};
+use rules::Answer;
+use rules::Band;
+use rules::Found;
+use rules::Rect;
+use rules::Rgb;
+use rules::Settings;
+use rules::Size;
+
+// Light: the ambient light of a frame.
+pub fn light(z: Size, k: Settings, frame: &[u8], work: &mut [i64]) -> Found
+    ensures { λ r. ⌜ Lights z k (now (frame .entry)) (now (work .entry)) r (now (work .exit)) ⌝ }
+{
+    let n = judge::refuse_light(z, k, frame.len(), work.len());
+    if n != 0 {
+        return Found::Refused(n);
+    }
+    Found::Light(light::find(z, k, frame, work))
+}
+
+// Clear: the transmission map and the cleared frame.
+pub fn clear(
+    z: Size,
+    k: Settings,
+    a: Rgb,
+    frame: &[u8],
+    map: &mut [u16],
+    picture: &mut [u8],
+    work: &mut [i64],
+) -> Answer
+    ensures { λ r. ⌜ Clears z k a (record { frame = now (frame .entry); map = now (map .entry); picture = now (picture .entry); work = now (work .entry) }) r (record { frame = now (frame .entry); map = now (map .exit); picture = now (picture .exit); work = now (work .exit) }) ⌝ }
+{
+    let n = judge::refuse_clear(z, k, a, frame.len(), map.len(), picture.len(), work.len());
+    if n != 0 {
+        return Answer::Refused(n);
+    }
+    clearing::clear_whole(map, picture, frame, work, z, k, a);
+    Answer::Done
+}
+
+// Replace: the new pixels go into the frame, and map and cleared frame are brought up to date.
+pub fn replace(
+    z: Size,
+    k: Settings,
+    a: Rgb,
+    c: Rect,
+    new: &[u8],
+    frame: &mut [u8],
+    map: &mut [u16],
+    picture: &mut [u8],
+    work: &mut [i64],
+) -> Answer
+    ensures { λ r. ⌜ Replaces z k a c (now (new .entry)) (record { frame = now (frame .entry); map = now (map .entry); picture = now (picture .entry); work = now (work .entry) }) r (record { frame = now (frame .exit); map = now (map .exit); picture = now (picture .exit); work = now (work .exit) }) ⌝ }
+{
+    let n = judge::refuse_replace(
+        z,
+        k,
+        a,
+        c,
+        new.len(),
+        frame.len(),
+        map.len(),
+        picture.len(),
+        work.len(),
+    );
+    if n != 0 {
+        return Answer::Refused(n);
+    }
+    clearing::replace_whole(frame, map, picture, work, z, k, a, c, new);
+    Answer::Done
+}
+
+// Haze: clean frame, light and transmission map in; hazy frame out.
+pub fn haze(z: Size, a: Rgb, clean: &[u8], map: &[u16], hazed: &mut [u8]) -> Answer
+    ensures { λ r. ⌜ Hazes z a (now (clean .entry)) (now (map .entry)) (now (hazed .entry)) r (now (hazed .exit)) ⌝ }
+{
+    let n = judge::refuse_haze(z, a, clean.len(), map, hazed.len());
+    if n != 0 {
+        return Answer::Refused(n);
+    }
+    adding::add(z, a, clean, map, hazed);
+    Answer::Done
+}
+
+// Band figure: mean and least transmission of the rows from .. to, the last left out.
+pub fn band(z: Size, map: &[u16], from: usize, to: usize) -> Band
+    ensures { λ r. ⌜ Bands z (now (map .entry)) from to r ⌝ }
+{
+    let n = judge::refuse_band(z, map, from, to);
+    if n != 0 {
+        return Band::Refused(n);
+    }
+    Band::Figure(bands::figure(z, map, from, to))
+}

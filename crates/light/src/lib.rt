@@ -1,0 +1,212 @@
+// The ambient light of a frame: the dark values by the window minimum, a count for each of their 256 values, the cutoff, the brightest candidate.
+ghost use mathlib.Core.Path.{_≡_};
+ghost use mathlib.Core.Bool.{cond, _&&_, _||_};
+ghost use Prim.Native.Nat.{ℕ, _+_, _*_, _/_, _≤_, _<_, max};
+ghost use lib.Dec.{ltb, leb, eqb};
+ghost use lib.ListN.{length, getD};
+ghost use lib.IntN.{pos};
+ghost use Rattle.rules.specs.Light.{darkest, lifted};
+ghost use Rattle.rules.specs.Buffers.{pixelAt};
+ghost use Rattle.light.specs.Steps.{value, ByteEntries, Filled, Tallied, reach, CutAt, Chosen, Ready, DarkPlane, Finds};
+use rules::Rgb;
+use rules::Settings;
+use rules::Size;
+
+// The cutoff of the dark values, and how many pixels at it are let in.
+struct Cut {
+    value: usize,
+    ties: usize,
+}
+
+// The candidate that leads: its position, and one more than its guide, or 0 before the first.
+struct Leader {
+    place: usize,
+    top: u64,
+}
+
+fn whole(x: u32) -> usize
+    ensures { λ r. ⌜ (r ≡ x) × (r ≤ 4294967295) ⌝ }
+{
+    x as usize
+}
+
+// A channel of 0 becomes 1.
+fn lift(x: u8) -> u8
+    ensures { λ r. ⌜ r ≡ max 1 x ⌝ }
+{
+    if x < 1 { 1 } else { x }
+}
+
+// The least byte of the pixel at p.
+fn darkest_at(frame: &[u8], p: usize) -> i64
+    requires { ⌜ 3 * p + 3 ≤ length (now frame) ⌝ }
+    ensures { λ r. ⌜ r ≡ pos (darkest (pixelAt (now (frame .entry)) p)) ⌝ }
+{
+    let i = pixel::pixel_at(frame, p);
+    pixel::darkest_of(i) as i64
+}
+
+// The light that the pixel at p gives.
+fn colour(frame: &[u8], p: usize) -> Rgb
+    requires { ⌜ 3 * p + 3 ≤ length (now frame) ⌝ }
+    ensures { λ r. ⌜ r ≡ lifted (pixelAt (now (frame .entry)) p) ⌝ }
+{
+    let i = pixel::pixel_at(frame, p);
+    let r = lift(i.r);
+    let g = lift(i.g);
+    let b = lift(i.b);
+    Rgb { r: r, g: g, b: b }
+}
+
+// The least byte of each pixel, at the work area's start.
+fn fill(frame: &[u8], work: &mut [i64], n: usize)
+    requires { ⌜ (3 * n ≤ length (now frame)) × (n ≤ length (now work)) ⌝ }
+    ensures { λ _. ⌜ Filled (now (frame .entry)) n (now (work .entry)) (now (work .exit)) ⌝ }
+{
+    let mut p = 0;
+    while p < n {
+        work[p] = darkest_at(frame, p);
+        p += 1;
+    }
+}
+
+// The dark value at p.
+fn level(work: &[i64], p: usize) -> usize
+    requires { ⌜ (p < length (now work)) × (getD (now work) p (pos 0) ≡ pos (value (now work) p)) × (value (now work) p ≤ 255) ⌝ }
+    ensures { λ r. ⌜ r ≡ value (now (work .entry)) p ⌝ }
+{
+    work[p] as usize
+}
+
+// How many of the first n entries have each value. The counts are 0 before.
+fn tally(work: &[i64], n: usize, counts: &mut [u32])
+    requires { ⌜ (n ≤ length (now work)) × (n ≤ 262144) × ByteEntries n (now work) × (length (now counts) ≡ 256) × ((v : ℕ) → v < 256 → getD (now counts) v 0 ≡ 0) ⌝ }
+    ensures { λ _. ⌜ Tallied (value (now (work .entry))) n (now (counts .exit)) ⌝ }
+{
+    let mut p = 0;
+    while p < n {
+        let d = level(work, p);
+        counts[d] = counts[d] + 1;
+        p += 1;
+    }
+}
+
+// The greatest value that at least m pixels reach. 256 counts of 32 bits say at most 2^40.
+fn cutoff(counts: &[u32], m: usize) -> Cut
+    requires { ⌜ (length (now counts) ≡ 256) × (0 < m) × (m ≤ 1099511627776) × (m ≤ reach (now counts) 0) ⌝ }
+    ensures { λ r. ⌜ CutAt (now (counts .entry)) m r ⌝ }
+{
+    let mut v = 255;
+    let mut above = 0;
+    let mut next = whole(counts[255]);
+    while next < m {
+        above = next;
+        v -= 1;
+        next = above + whole(counts[v]);
+    }
+    Cut {
+        value: v,
+        ties: m - above,
+    }
+}
+
+// Whether a pixel of dark value d is a candidate, after `seen` at the cutoff.
+fn admits(d: usize, cut: usize, seen: usize, ties: usize) -> bool
+    ensures { λ r. ⌜ r ≡ (ltb cut d || (eqb cut d && ltb seen ties)) ⌝ }
+{
+    if cut < d {
+        return true;
+    }
+    if d < cut {
+        return false;
+    }
+    seen < ties
+}
+
+// How many have been seen at the cutoff, with a pixel of dark value d.
+fn seen_now(d: usize, cut: usize, seen: usize) -> usize
+    requires { ⌜ seen < 4294967295 ⌝ }
+    ensures { λ r. ⌜ r ≡ seen + cond (eqb cut d) 1 0 ⌝ }
+{
+    if cut == d { seen + 1 } else { seen }
+}
+
+// A brighter candidate takes the lead, an equal one does not.
+fn better(b: Leader, ok: bool, p: usize, g: u64) -> Leader
+    requires { ⌜ g ≤ 765 ⌝ }
+    ensures { λ r. ⌜ r ≡ cond ok (cond (leb (b .top) g) (record { place = p; top = g + 1 }) b) b ⌝ }
+{
+    if !ok {
+        return b;
+    }
+    if b.top <= g {
+        return Leader {
+            place: p,
+            top: g + 1,
+        };
+    }
+    b
+}
+
+// The position of the brightest candidate, the first on a tie.
+fn choose(frame: &[u8], work: &[i64], n: usize, cut: Cut) -> usize
+    requires { ⌜ (0 < n) × (n ≤ 262144) × (3 * n ≤ length (now frame)) × (n ≤ length (now work)) × ByteEntries n (now work) ⌝ }
+    ensures { λ r. ⌜ Chosen (now (frame .entry)) (now (work .entry)) n cut r ⌝ }
+{
+    let value = cut.value;
+    let ties = cut.ties;
+    let mut leader = Leader { place: 0, top: 0 };
+    let mut seen = 0;
+    let mut p = 0;
+    while p < n {
+        let d = level(work, p);
+        let ok = admits(d, value, seen, ties);
+        let i = pixel::pixel_at(frame, p);
+        let g = pixel::guide_of(i);
+        leader = better(leader, ok, p, g);
+        seen = seen_now(d, value, seen);
+        p += 1;
+    }
+    leader.place
+}
+
+// How many candidates there are.
+fn candidates(n: usize, share: u64) -> usize
+    requires { ⌜ (n ≤ 262144) × (share ≤ 1000) ⌝ }
+    ensures { λ r. ⌜ r ≡ max 1 (n * share / 1000) ⌝ }
+{
+    let m = n * (share as usize) / 1000;
+    if m < 1 { 1 } else { m }
+}
+
+// The dark value of each pixel, at the work area's start.
+fn darks(z: Size, k: Settings, frame: &[u8], work: &mut [i64])
+    requires { ⌜ Ready z k (length (now frame)) (length (now work)) ⌝ }
+    ensures { λ _. ⌜ DarkPlane z k (now (frame .entry)) (now (work .entry)) (now (work .exit)) ⌝ }
+{
+    let w = z.w;
+    let h = z.h;
+    let s = k.s;
+    let n = w * h;
+    fill(frame, work, n);
+    windows::shrink(work, 0, w, w, h, s, n);
+}
+
+// The light of a frame, for a call that is not refused. The work area is wiped.
+pub fn find(z: Size, k: Settings, frame: &[u8], work: &mut [i64]) -> Rgb
+    requires { ⌜ Ready z k (length (now frame)) (length (now work)) ⌝ }
+    ensures { λ r. ⌜ Finds z k (now (frame .entry)) (now (work .entry)) r (now (work .exit)) ⌝ }
+{
+    let w = z.w;
+    let h = z.h;
+    let share = k.share;
+    let n = w * h;
+    darks(z, k, frame, work);
+    let m = candidates(n, share);
+    let mut counts = [0; 256];
+    tally(&work[..], n, &mut counts[..]);
+    let cut = cutoff(&counts[..], m);
+    let p = choose(frame, &work[..], n, cut);
+    planes::wipe(work, 8 * ((w + 1) * (h + 1)));
+    colour(frame, p)
+}

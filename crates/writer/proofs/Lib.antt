@@ -1,0 +1,5 @@
+-- Laws of runs, of parts and rows, and of what is written where.
+pub mod Runs
+pub mod Parts
+pub mod Rows
+pub mod Placed

@@ -1,0 +1,3 @@
+-- What the writer's contracts speak of.
+pub mod Run
+pub mod Write
