@@ -1,0 +1,7 @@
+-- Lines, fields and numbers of a text, as definitions on lists.
+pub mod Words
+pub mod Bytes
+pub mod Fields
+pub mod Parts
+pub mod Decimal
+pub mod Written

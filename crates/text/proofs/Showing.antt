@@ -1,0 +1,138 @@
+-- An accepted frame is neither refused by Light nor by Clear, and what the two leave is what is written. Assumes nothing.
+use mathlib.Core.Path.{_≡_, sym, ap, ap₂, subst, _∙_}
+use mathlib.Core.Bool.{false, not}
+use mathlib.Core.List.{List, _++_}
+use Prim.Native.Nat.{ℕ, zero, suc, _+_, _*_, max, _≤_}
+use native.Mathlib.Nat.{mul-le-mul}
+use native.Mathlib.Omega.{arith}
+use lib.Dec.{eqb}
+use lib.IntN.{ℤ}
+use lib.ListN.{length, take}
+use lib.Seq.{length-take-le}
+use borrow.Author.Tests.{eq-eqb, ne-eqb, le-ltb}
+use Rattle.rules.specs.Shape.{Shape, described, room}
+use Rattle.rules.specs.declared.Size.{Size}
+use Rattle.rules.specs.declared.Settings.{Settings}
+use Rattle.rules.specs.declared.Rgb.{Rgb}
+use Rattle.rules.specs.declared.Answer.{Answer}
+use Rattle.rules.specs.declared.Found.{Found}
+use Rattle.rules.specs.declared.Found.the-variants.{Light, Refused}
+use Rattle.rules.specs.Window.{Plane}
+use Rattle.rules.specs.Light.{light}
+use Rattle.rules.specs.Buffers.{pixels, State, clear}
+use Rattle.rules.specs.Refusals.{badFrame, badMap, badWork, badLight, refuseLight, refuseClear}
+use Rattle.rules.specs.Promise.{foundOr, unless, wiped, Lent, lent, Lights, Clears}
+use Rattle.fields.specs.Written.{Wrote}
+use Rattle.fields.proofs.Written.{then}
+use Rattle.records.specs.Judging.{cells}
+use Rattle.text.specs.Text.{outs, lightLine, shown}
+use Rattle.text.specs.Ready.{Ready, Accepted}
+use Rattle.records.proofs.Frames.{sides, few}
+
+lit : (n : ℕ) → eqb (max 1 n) 0 ≡ false
+lit n = ne-eqb (max 1 n) 0 (λ e. let z : ⊥ = omega arith in z)
+
+pub light-good : (z : Shape) (k : Settings) (f : Plane Rgb) → badLight (light z k f) ≡ false
+unfolding badLight light
+light-good z k f = rw (lit, lit, lit)
+
+module _ (z : Size) (k : Settings) (frame entries picture work out : ℕ) (r : Ready z k frame entries picture work out) where
+  frame-good : badFrame z frame ≡ false
+  unfolding badFrame
+  frame-good = ap not (eq-eqb frame (3 * (z .w * z .h)) (r .frame-is))
+
+  picture-good : badFrame z picture ≡ false
+  unfolding badFrame
+  picture-good = ap not (eq-eqb picture (3 * (z .w * z .h)) (r .picture-is))
+
+  entries-good : badMap z entries ≡ false
+  unfolding badMap
+  entries-good = ap not (eq-eqb entries (z .w * z .h) (r .entries-is))
+
+  work-good : badWork z work ≡ false
+  unfolding badWork
+  work-good = le-ltb work (room (described z)) (r .work-room)
+
+  pub accept-light : refuseLight z k frame work ≡ 0
+  unfolding refuseLight
+  accept-light = rw (r .size-good, r .settings-good, frame-good, work-good)
+
+  pub accept-clear : (a : Rgb) → badLight a ≡ false → refuseClear z k a frame entries picture work ≡ 0
+  unfolding refuseClear
+  accept-clear a h = rw (r .size-good, r .settings-good, frame-good, picture-good, entries-good, work-good, h)
+
+-- ---- what the promises come to for a frame that is ready
+
+found-light : (n : ℕ) (a : Rgb) (r : Found) → r ≡ foundOr n a → n ≡ 0 → r ≡ Light a
+found-light zero a r e z = e
+found-light (suc n) a r e z = absurd (let y : ⊥ = omega arith in y)
+
+same-light : (a b : Rgb) → Light a ≡ Light b → a ≡ b
+same-light a b e = cc
+
+pub the-light : (n : ℕ) (a b : Rgb) (r : Found) → r ≡ foundOr n b → n ≡ 0 → r ≡ Light a → a ≡ b
+the-light n a b r e z q = same-light a b (sym q ∙ found-light n b r e z)
+
+pub no-refusal : (n m : ℕ) (b : Rgb) (r : Found) → r ≡ foundOr n b → n ≡ 0 → r ≡ Refused m → ⊥
+no-refusal n m b r e z q = let w : Light b ≡ Refused m = sym (found-light n b r e z) ∙ q in let y : _≡_ {A = ℕ} 0 1 = cc in omega arith
+
+pub new-state : (n : ℕ) (m new old : Lent) → m ≡ unless n new old → n ≡ 0 → m ≡ new
+new-state zero m new old e z = e
+new-state (suc n) m new old e z = absurd (let y : ⊥ = omega arith in y)
+
+pub all-shown : (z : Size) (k : Settings) (frame : List ℕ) (a : Rgb) (entries picture : List ℕ) (n : ℕ) (out mid out′ : List ℕ) (at end : ℕ)
+    → a ≡ light (described z) k (pixels (described z) frame) → n ≡ cells z
+    → entries ≡ clear (described z) k a frame .map → picture ≡ clear (described z) k a frame .picture
+    → Wrote (lightLine a) out 0 mid at → Wrote (outs n entries picture) mid at out′ end → Wrote (shown z k frame) out 0 out′ end
+unfolding shown
+all-shown z k frame a entries picture n out mid out′ at end ea en ee ep w v =
+    let b : Rgb = light (described z) k (pixels (described z) frame) in
+    let s : State = clear (described z) k b frame in
+    let e : lightLine a ++ outs n entries picture ≡ lightLine b ++ outs (cells z) (s .map) (s .picture) =
+    ap₂ (λ (x y : List ℕ). lightLine a ++ outs n x y) ee ep
+    ∙ ap₂ (λ (x : Rgb) (m : ℕ). lightLine x ++ outs m (clear (described z) k x frame .map) (clear (described z) k x frame .picture)) ea en in
+    subst (λ (l : List ℕ). Wrote l out 0 out′ end) e (then w v)
+
+module _ (z : Size) (k : Settings) (l : Lent) (out : ℕ)
+    (ready : Ready z k (length (l .frame)) (length (l .map)) (length (l .picture)) (length (l .work)) out)
+    (r : Found) (work′ : List ℤ) (found : Lights z k (l .frame) (l .work) r work′) where
+  lightless : (n : ℕ) → r ≡ Refused n → ⊥
+  lightless n q = no-refusal (refuseLight z k (length (l .frame)) (length (l .work))) n _ r (found .answer) (accept-light z k _ _ _ _ out ready) q
+
+  pub never : {A : Type 0} (n : ℕ) → r ≡ Refused n → A
+  never n q = absurd (lightless n q)
+
+  pub finished : (a : Rgb) (b : Answer) (m : Lent) (before mid after : List ℕ) (at end : ℕ) → r ≡ Light a → length work′ ≡ length (l .work)
+      → Clears z k a (record { frame = l .frame; map = l .map; picture = l .picture; work = work′ }) b m → length (m .map) ≡ length (l .map)
+      → Wrote (lightLine a) before 0 mid at → Wrote (outs (length (m .map)) (m .map) (m .picture)) mid at after end
+      → Wrote (shown z k (l .frame)) before 0 after end
+  finished a b m before mid after at end q kept cleared same w v =
+      let ea : a ≡ light (described z) k (pixels (described z) (l .frame)) =
+      the-light (refuseLight z k (length (l .frame)) (length (l .work))) a _ r (found .answer) (accept-light z k _ _ _ _ out ready) q in
+      let good : badLight a ≡ false = ap badLight ea ∙ light-good (described z) k (pixels (described z) (l .frame)) in
+      let ready′ : Ready z k (length (l .frame)) (length (l .map)) (length (l .picture)) (length work′) out =
+      subst (λ (n : ℕ). Ready z k (length (l .frame)) (length (l .map)) (length (l .picture)) n out) (sym kept) ready in
+      let state : m ≡ lent (clear (described z) k a (l .frame)) (wiped (described z) work′) =
+      new-state (refuseClear z k a (length (l .frame)) (length (l .map)) (length (l .picture)) (length work′)) m _ _ (cleared .after)
+      (accept-clear z k _ _ _ _ out ready′ a good) in
+      all-shown z k (l .frame) a (m .map) (m .picture) (length (m .map)) before mid after at end ea (same ∙ ready .entries-is)
+      (ap (λ (x : Lent). x .map) state) (ap (λ (x : Lent). x .picture) state) w v
+
+-- ---- an accepted frame, with memory for the largest, is ready
+
+pub prepared : (z : Size) (k : Settings) (frame entries picture : List ℕ) (work out : ℕ) → Accepted z k (length frame) out
+    → 576 ≤ length entries → 1728 ≤ length picture → 5000 ≤ work
+    → Ready z k (length (take (3 * cells z) frame)) (length (take (cells z) entries)) (length (take (3 * cells z) picture)) work out
+prepared z k frame entries picture work out a he hp hw =
+    let n : cells z ≤ 576 = few z (a .size-small) in
+    let s = sides z (a .size-small) in
+    let m : (z .w + 1) * (z .h + 1) ≤ 625 = mul-le-mul (let x : z .w + 1 ≤ 25 = omega arith in x) (let y : z .h + 1 ≤ 25 = omega arith in y) in
+    record {
+      size-good = a .size-good;
+      settings-good = a .settings-good;
+      frame-is = length-take-le (3 * cells z) frame (omega (arith, a .frame-room));
+      entries-is = length-take-le (cells z) entries (omega arith);
+      picture-is = length-take-le (3 * cells z) picture (omega arith);
+      work-room = omega arith;
+      out-room = omega (arith, a .out-room);
+    }
