@@ -1,0 +1,154 @@
+// The five calls on lent parts of the buffers, and what they answer, in words.
+use crate::digest;
+use crate::digest::say;
+use crate::fill::at_most;
+use crate::fill::past;
+use rules::Answer;
+use rules::Band;
+use rules::Figure;
+use rules::Found;
+use rules::Rect;
+use rules::Rgb;
+use rules::Settings;
+use rules::Size;
+
+fn size(args: &[u64; 24]) -> Size {
+    Size {
+        w: args[1] as usize,
+        h: args[2] as usize,
+    }
+}
+
+fn settings(args: &[u64; 24]) -> Settings {
+    Settings {
+        s: args[3] as usize,
+        r: args[4] as usize,
+        omega: args[5],
+        e: args[6],
+        t0: args[7],
+        share: args[8],
+    }
+}
+
+fn light_given(args: &[u64; 24]) -> Rgb {
+    Rgb {
+        r: (args[9] % 256) as u8,
+        g: (args[10] % 256) as u8,
+        b: (args[11] % 256) as u8,
+    }
+}
+
+fn rect(args: &[u64; 24]) -> Rect {
+    Rect {
+        x: args[12] as usize,
+        y: args[13] as usize,
+        w: args[14] as usize,
+        h: args[15] as usize,
+    }
+}
+
+fn say_refused(number: u8) {
+    io::write_all(1, b"refused");
+    say(number as u64);
+}
+
+fn say_answer(answer: Answer) {
+    match answer {
+        Answer::Done => {
+            io::write_all(1, b"done");
+        }
+        Answer::Refused(number) => say_refused(number),
+    }
+}
+
+fn say_found(found: Found) {
+    match found {
+        Found::Light(a) => {
+            io::write_all(1, b"light");
+            say(a.r as u64);
+            say(a.g as u64);
+            say(a.b as u64);
+        }
+        Found::Refused(number) => say_refused(number),
+    }
+}
+
+// A double by its bits; 0 stands for what is no number.
+fn bits(x: f64) -> u64 {
+    if x == x { f64::to_bits(x) } else { 0 }
+}
+
+fn say_figure(figure: Figure) {
+    io::write_all(1, b"figure");
+    say(bits(figure.mean));
+    say(bits(figure.least));
+}
+
+fn say_band(band: Band) {
+    match band {
+        Band::Figure(figure) => say_figure(figure),
+        Band::Refused(number) => say_refused(number),
+    }
+}
+
+// The call, on the lent parts.
+fn call(
+    args: &[u64; 24],
+    frame: &mut [u8],
+    new: &[u8],
+    map: &mut [u16],
+    picture: &mut [u8],
+    work: &mut [i64],
+) {
+    let z = size(args);
+    let k = settings(args);
+    let a = light_given(args);
+    let c = rect(args);
+    let command = args[0];
+    match command {
+        1 => say_found(haze::light(z, k, frame, work)),
+        3 => say_answer(haze::replace(z, k, a, c, new, frame, map, picture, work)),
+        4 => say_answer(haze::haze(z, a, frame, map, picture)),
+        5 => say_band(haze::band(z, map, c.x, c.y)),
+        _ => say_answer(haze::clear(z, k, a, frame, map, picture, work)),
+    }
+}
+
+// The call, and what the lent parts hold after it.
+fn report(
+    args: &[u64; 24],
+    frame: &mut [u8],
+    new: &[u8],
+    map: &mut [u16],
+    picture: &mut [u8],
+    work: &mut [i64],
+) {
+    call(args, frame, new, map, picture, work);
+    digest::say_all(frame, new, map, picture, work);
+}
+
+// Lends as much of each buffer as asked for: of map and picture from any entry on, of the others from the first.
+pub(crate) fn lend(
+    args: &[u64; 24],
+    frame: &mut [u8],
+    new: &[u8],
+    map: &mut [u16],
+    picture: &mut [u8],
+    work: &mut [i64],
+) {
+    let f = at_most(args[16], frame.len());
+    let n = at_most(args[17], new.len());
+    let m = at_most(args[21], map.len());
+    let m_end = past(m, args[18], map.len());
+    let p = at_most(args[22], picture.len());
+    let p_end = past(p, args[19], picture.len());
+    let q = at_most(args[20], work.len());
+    report(
+        args,
+        &mut frame[0..f],
+        &new[0..n],
+        &mut map[m..m_end],
+        &mut picture[p..p_end],
+        &mut work[0..q],
+    );
+}

@@ -1,0 +1,78 @@
+// Runs the five calls on what standard input says, and writes after each call its answer and a digest of every buffer that was lent.
+// A line of input is one command: decimal numbers, each ended by one byte that is no digit. The first number says what to do:
+//   1 light, 2 clear, 3 replace, 4 haze, 5 band figure, 6 fill a part of a buffer.
+// The buffers stay from line to line, so that a run of replacements is a run of lines. A call's other numbers are, in this order:
+//   W H, s r omega E t0 share, the light R G B, the rectangle x y w h (for the band figure: from, to, 0, 0),
+//   how many entries of frame, new pixels, map, picture and work area are lent, and which entry of map and picture is the first.
+// Haze takes the frame as the clean one and hazes the picture. A fill's other numbers are the buffer's, the first entry and how many, and
+// those of `fill::Pattern`.
+mod calls;
+mod digest;
+mod fill;
+mod line;
+
+// Does what one line says.
+fn act(
+    args: &[u64; 24],
+    frame: &mut [u8],
+    new: &mut [u8],
+    map: &mut [u16],
+    picture: &mut [u8],
+    work: &mut [i64],
+) {
+    if args[0] == 6 {
+        fill::part(args, frame, new, map, picture, work)
+    } else {
+        calls::lend(args, frame, new, map, picture, work)
+    }
+}
+
+// Does what one line says, whose numbers are still text.
+fn obey(
+    text: &[u8],
+    frame: &mut [u8],
+    new: &mut [u8],
+    map: &mut [u16],
+    picture: &mut [u8],
+    work: &mut [i64],
+) {
+    let mut args = [0u64; 24];
+    line::numbers(text, &mut args);
+    act(&args, frame, new, map, picture, work);
+}
+
+// Does what each line of the text says, one after the other.
+fn run(
+    text: &[u8],
+    frame: &mut [u8],
+    new: &mut [u8],
+    map: &mut [u16],
+    picture: &mut [u8],
+    work: &mut [i64],
+) {
+    let mut at = 0;
+    while at < text.len() {
+        let end = line::end(text, at);
+        obey(&text[at..end], frame, new, map, picture, work);
+        at = end;
+    }
+}
+
+// The buffers hold a frame of 130 by 130 pixels with its work area, two maps and two pictures, each with one entry more.
+fn main() {
+    let mut text = [0u8; 524288];
+    let mut frame = [0u8; 50701];
+    let mut new = [0u8; 50701];
+    let mut map = [0u16; 33802];
+    let mut picture = [0u8; 101402];
+    let mut work = [0i64; 137289];
+    let n = io::read_full(0, &mut text);
+    run(
+        &text[..n],
+        &mut frame,
+        &mut new,
+        &mut map,
+        &mut picture,
+        &mut work,
+    );
+}
