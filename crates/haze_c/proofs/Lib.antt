@@ -1,0 +1,3 @@
+-- The laws of the C boundary.
+pub mod Unique
+pub mod Told

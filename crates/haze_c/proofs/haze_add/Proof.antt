@@ -1,0 +1,20 @@
+-- `haze_c::haze_add` meets its contract. The call's answer is returned as its number. Assumes nothing.
+use borrow.Author.Needs.{needs}
+use Rattle.haze_c.proofs.haze_add.Statement.{statement}
+use Rattle.haze_c.proofs.haze_add.Tie as tie
+use Rattle.haze_c.proofs.Told.{add-returns}
+
+haze-requires : tie.Need-haze-requires
+haze-requires c κs = search needs
+
+number-requires : tie.Need-number-requires
+number-requires c κs = search needs
+
+same-length : tie.Need-same-length
+same-length c = search needs
+
+returns : tie.Need-returns
+returns c = add-returns (c .before .before .before .haze .ensures) (c .number .ensures)
+
+pub haze-add-spec : {M : Type 1} → statement M
+haze-add-spec = tie.close (tie.spec haze-requires number-requires same-length returns)

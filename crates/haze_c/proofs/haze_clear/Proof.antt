@@ -1,0 +1,38 @@
+-- `haze_c::haze_clear` meets its contract. The call's answer is returned as its number. Assumes nothing.
+use borrow.Author.Needs.{needs}
+use Rattle.haze_c.proofs.haze_clear.Statement.{statement}
+use Rattle.haze_c.proofs.haze_clear.Tie as tie
+use Rattle.haze_c.proofs.Told.{clear-returns}
+
+set-requires : tie.Need-set-requires
+set-requires c κs = search needs
+
+clear-requires : tie.Need-clear-requires
+clear-requires c κs = search needs
+
+number-requires : tie.Need-number-requires
+number-requires c κs = search needs
+
+same-length : tie.Need-same-length
+same-length c = search needs
+
+same-length-2 : tie.Need-same-length-2
+same-length-2 c = search needs
+
+same-length-3 : tie.Need-same-length-3
+same-length-3 c = search needs
+
+returns : tie.Need-returns
+returns c = clear-returns (c .before .before .before .before .before .before .before .before .before .before .set .ensures) (c .before .before .before .before .before .before .clear .ensures) (c .number .ensures)
+
+pub haze-clear-spec : {M : Type 1} → statement M
+haze-clear-spec =
+    tie.close
+    (tie.spec
+    set-requires
+    clear-requires
+    number-requires
+    same-length
+    same-length-2
+    same-length-3
+    returns)

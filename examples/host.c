@@ -1,0 +1,38 @@
+/* A row of two pixels, cleared: the light is found, the frame cleared under it, one pixel replaced, and the map's figure read off. */
+#include <stdio.h>
+#include "haze.h"
+
+#define W 2
+#define H 1
+
+int main(void)
+{
+    uint8_t frame[3 * W * H] = {200, 200, 200, 100, 150, 180};
+    const uint8_t new_pixel[3] = {190, 180, 170};
+    uint8_t picture[3 * W * H] = {0}, red = 0, green = 0, blue = 0, answer;
+    uint16_t map[W * H] = {0};
+    int64_t work[HAZE_WORK(W, H)] = {0};
+    double mean = 0, least = 0;
+
+    answer = haze_light(W, H, 0, 1, 9500, 59, 1000, 1, frame, sizeof frame, work, HAZE_WORK(W, H), &red, &green, &blue);
+    printf("light %d: %d %d %d\n", answer, red, green, blue);
+
+    answer = haze_clear(W, H, 0, 1, 9500, 59, 1000, 1, red, green, blue, frame, sizeof frame, map, W * H, picture, sizeof picture, work,
+                        HAZE_WORK(W, H));
+    printf("clear %d: %d %d, second pixel %d %d %d\n", answer, map[0], map[1], picture[3], picture[4], picture[5]);
+
+    answer = haze_replace(W, H, 0, 1, 9500, 59, 1000, 1, red, green, blue, 1, 0, 1, 1, new_pixel, sizeof new_pixel, frame, sizeof frame, map, W * H,
+                          picture, sizeof picture, work, HAZE_WORK(W, H));
+    printf("replace %d: %d %d, second pixel %d %d %d\n", answer, map[0], map[1], picture[3], picture[4], picture[5]);
+
+    answer = haze_band(W, H, map, W * H, 0, 1, &mean, &least);
+    printf("band %d: mean %.4f least %.4f\n", answer, mean, least);
+
+    answer = haze_add(W, H, red, green, blue, picture, sizeof picture, map, W * H, frame, sizeof frame);
+    printf("add %d: %d %d %d\n", answer, frame[3], frame[4], frame[5]);
+
+    answer = haze_clear(W, H, 31, 1, 9500, 59, 1000, 1, red, green, blue, frame, sizeof frame, map, W * H, picture, sizeof picture, work,
+                        HAZE_WORK(W, H));
+    printf("clear with s 31 is refused %d\n", answer);
+    return answer != HAZE_BAD_SETTING;
+}

@@ -1,0 +1,220 @@
+/* The library beside the peer, in one process, turn about, best of many runs. Usage: bench [ROUNDS].
+ * Built with DIVISIONS it counts in place of timing: host/divisions.awk has put a count before each division of both. */
+#include <stdio.h>
+#include <stdlib.h>
+#include <string.h>
+#include <time.h>
+#include "haze.h"
+#include "peer.h"
+#include "frames.h"
+
+#define MOST MAX_PIXELS
+#define WORK_MOST (8 * (MOST + 1024 + 256 + 1))
+#define SIDE 32     /* of the rectangle that is replaced */
+
+static uint64_t w, h, column, row;
+static settings k;
+static uint8_t frame[3 * MOST], picture[3 * MOST], hazy[3 * MOST], pixels[3 * SIDE * SIDE], a[3];
+static uint8_t peer_frame[3 * MOST], peer_picture[3 * MOST], peer_hazy[3 * MOST], peer_a[3];
+static uint16_t map[MOST], peer_map[MOST];
+static int64_t work[WORK_MOST];
+static _Alignas(64) uint8_t scratch[16 * MOST];
+static double mean, least, peer_mean, peer_least;
+static peer_settings pk;
+
+/* ---- the calls, each of the library and of the peer */
+
+#define SETTINGS k.s, k.r, k.omega, k.e, k.t0, k.share
+#define W32 (uint32_t)w, (uint32_t)h
+#define FRAME 3 * w * h
+#define WORK work, HAZE_WORK(w, h)
+
+static int lib_light(void) { return haze_light(w, h, SETTINGS, frame, FRAME, WORK, &a[0], &a[1], &a[2]); }
+static int own_light(void) { return peer_light(W32, &pk, peer_frame, FRAME, peer_a, scratch); }
+
+static int lib_clear(void) { return haze_clear(w, h, SETTINGS, a[0], a[1], a[2], frame, FRAME, map, w * h, picture, FRAME, WORK); }
+static int own_clear(void) { return peer_clear(W32, &pk, peer_frame, FRAME, peer_a, peer_map, w * h, peer_picture, FRAME, scratch); }
+
+static int lib_replace(void)
+{
+    return haze_replace(w, h, SETTINGS, a[0], a[1], a[2], column, row, SIDE, SIDE, pixels, sizeof pixels, frame, FRAME, map, w * h, picture, FRAME, WORK);
+}
+static int own_replace(void)
+{
+    return peer_replace(W32, &pk, peer_frame, FRAME, peer_a, (uint32_t)column, (uint32_t)row, SIDE, SIDE, pixels, sizeof pixels, peer_map, w * h,
+                        peer_picture, FRAME, scratch);
+}
+
+static int lib_add(void) { return haze_add(w, h, a[0], a[1], a[2], picture, FRAME, map, w * h, hazy, FRAME); }
+static int own_add(void) { return peer_add(W32, peer_picture, FRAME, peer_a, peer_map, w * h, peer_hazy, FRAME); }
+
+static int lib_band(void) { return haze_band(w, h, map, w * h, 0, h, &mean, &least); }
+static int own_band(void) { return peer_band(W32, peer_map, w * h, 0, (uint32_t)h, &peer_mean, &peer_least); }
+
+/* ---- one figure */
+
+static void stop(const char *why)
+{
+    printf("bench: %s\n", why);
+    exit(1);
+}
+
+static void equal(void)
+{
+    if (memcmp(a, peer_a, 3) || memcmp(frame, peer_frame, FRAME) || memcmp(map, peer_map, 2 * w * h) || memcmp(picture, peer_picture, FRAME)
+        || memcmp(hazy, peer_hazy, FRAME) || memcmp(&mean, &peer_mean, 8) || memcmp(&least, &peer_least, 8))
+        stop("library and peer differ");
+}
+
+static void must(int answer) { if (answer) stop("a call was refused"); }
+
+static void prepare(uint64_t side, uint64_t s, uint64_t r)
+{
+    settings set = {s, r, 9500, 59, 1000, 1};
+    peer_settings peer_set = {(uint32_t)s, (uint32_t)r, 9500, 59, 1000, 1};
+    k = set;
+    pk = peer_set;
+    w = h = side;
+    drawn = 5;
+    paint_as(HAZY, frame, w, h);
+    paint_as(NOISE, pixels, SIDE, SIDE);
+    memcpy(peer_frame, frame, FRAME);
+    must(lib_light() | own_light());
+    must(lib_clear() | own_clear());
+    must(lib_add() | own_add());
+    must(lib_band() | own_band());
+    equal();
+}
+
+#ifdef DIVISIONS
+
+uint64_t haze_divisions;
+
+static double counted(int (*call)(void))
+{
+    haze_divisions = 0;
+    must(call());
+    return (double)haze_divisions / (double)(w * h);
+}
+
+static void line(const char *name, int (*lib)(void), int (*own)(void))
+{
+    double one = counted(lib), two = counted(own);
+    printf("%-22s %9.3f %9.3f\n", name, one, two);
+}
+
+int main(void)
+{
+    printf("divisions by a number that is no constant, a pixel of the frame, at 512x512\n%-22s %9s %9s\n", "", "library", "peer");
+    prepare(512, 7, 30);
+    line("light", lib_light, own_light);
+    line("clear", lib_clear, own_clear);
+    line("haze", lib_add, own_add);
+    line("band", lib_band, own_band);
+    column = row = 240;
+    line("replace 32x32, middle", lib_replace, own_replace);
+    return 0;
+}
+
+#else
+
+static uint64_t rounds;
+
+static double now(void)
+{
+    struct timespec t;
+    clock_gettime(CLOCK_MONOTONIC, &t);
+    return (double)t.tv_sec * 1e3 + (double)t.tv_nsec / 1e6;
+}
+
+static double once(int (*call)(void))
+{
+    double began = now();
+    must(call());
+    return now() - began;
+}
+
+static double lib_best, own_best;
+
+static void measure(int (*lib)(void), int (*own)(void))
+{
+    uint64_t i;
+    lib_best = own_best = 1e9;
+    for (i = 0; i < rounds; i++) {
+        double one = once(lib), two = once(own);
+        lib_best = one < lib_best ? one : lib_best;
+        own_best = two < own_best ? two : own_best;
+    }
+    equal();
+}
+
+static double line(const char *name, int (*lib)(void), int (*own)(void))
+{
+    measure(lib, own);
+    printf("%-22s %9.3f %9.3f %7.2f %9.2f %9.2f\n", name, lib_best, own_best, lib_best / own_best, lib_best * 1e6 / (double)(w * h),
+           own_best * 1e6 / (double)(w * h));
+    return lib_best;
+}
+
+static void title(const char *what)
+{
+    printf("\n%-22s %9s %9s %7s %9s %9s\n%-22s %9s %9s %7s %9s %9s\n", what, "library", "peer", "ratio", "library", "peer", "", "ms", "ms", "", "ns/pixel",
+           "ns/pixel");
+}
+
+static int wipe(void)
+{
+    memset(work, 0, 8 * HAZE_WORK(w, h));
+    return 0;
+}
+
+static void calls(void)
+{
+    double clear, middle;
+    title("512x512, s 7, r 30");
+    prepare(512, 7, 30);
+    line("light", lib_light, own_light);
+    clear = line("clear", lib_clear, own_clear);
+    line("haze", lib_add, own_add);
+    line("band, all rows", lib_band, own_band);
+    column = row = 240;
+    middle = line("replace 32x32, middle", lib_replace, own_replace);
+    column = row = 0;
+    line("replace 32x32, corner", lib_replace, own_replace);
+    measure(wipe, wipe);
+    printf("replace in the middle is %.2f of a clear; wiping the work area, which the peer has not, is %.3f ms of each call that is lent one\n",
+           middle / clear, lib_best);
+}
+
+static void at(const char *name, uint64_t v, uint64_t side, uint64_t s, uint64_t r, int (*lib)(void), int (*own)(void))
+{
+    char text[32];
+    size_t n = 0;
+    const char *c;
+    char digits[4] = {(char)('0' + v / 100 % 10), (char)('0' + v / 10 % 10), (char)('0' + v % 10), 0};
+    for (c = name; *c; c++) text[n++] = *c;
+    for (c = v > 99 ? digits : v > 9 ? digits + 1 : digits + 2; *c; c++) text[n++] = *c;
+    text[n] = 0;
+    prepare(side, s, r);
+    line(text, lib, own);
+}
+
+int main(int count, char **words)
+{
+    static const uint64_t sides[] = {128, 256, 512}, filters[] = {5, 15, 30, 60}, darks[] = {0, 7, 15, 30};
+    int i;
+    rounds = count > 1 ? (uint64_t)atoi(words[1]) : 60;
+    calls();
+    title("clear, s 7, r 30");
+    for (i = 0; i < 3; i++) at("side ", sides[i], sides[i], 7, 30, lib_clear, own_clear);
+    title("clear, 512x512, s 7");
+    for (i = 0; i < 4; i++) at("r ", filters[i], 512, 7, filters[i], lib_clear, own_clear);
+    title("clear, 512x512, r 30");
+    for (i = 0; i < 4; i++) at("s ", darks[i], 512, darks[i], 30, lib_clear, own_clear);
+    title("light, 512x512");
+    for (i = 0; i < 4; i++) at("s ", darks[i], 512, darks[i], 30, lib_light, own_light);
+    printf("\nbest of %llu runs, turn about\n", (unsigned long long)rounds);
+    return 0;
+}
+
+#endif

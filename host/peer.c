@@ -1,0 +1,453 @@
+/* See peer.h. Minimum by doubling along rows and by van Herk's blocks down columns (a whole
+ * row at a time), window sums by running sums (columns a whole row at a time, then along the row), stage by
+ * stage over just the part of the frame that the asked-for part of the map depends on. */
+#include "peer.h"
+#include <string.h>
+
+#define MAXSIDE 1024
+
+typedef struct { int x0, x1, y0, y1; } part;            /* columns x0..x1, rows y0..y1, ends left out */
+
+typedef struct {
+    uint16_t *mn;       /* ratio or dark value per pixel, then its window minimum, then the coarse value */
+    uint16_t *tmp;      /* prefix minima of the column pass */
+    uint16_t *g;        /* guide */
+    int32_t *a, *b;     /* slopes and offsets */
+} planes;
+
+static int imin(int a, int b) { return a < b ? a : b; }
+static int imax(int a, int b) { return a > b ? a : b; }
+
+size_t peer_scratch(uint32_t W, uint32_t H)
+{
+    return (size_t)W * H * (3 * sizeof(uint16_t) + 2 * sizeof(int32_t)) + 64;
+}
+
+static planes cut(void *scratch, size_t n)
+{
+    planes p;
+    p.a = (int32_t *)scratch;
+    p.b = p.a + n;
+    p.mn = (uint16_t *)(p.b + n);
+    p.tmp = p.mn + n;
+    p.g = p.tmp + n;
+    return p;
+}
+
+static part grown(part p, int by, int W, int H)
+{
+    part q;
+    q.x0 = imax(0, p.x0 - by); q.x1 = imin(W, p.x1 + by);
+    q.y0 = imax(0, p.y0 - by); q.y1 = imin(H, p.y1 + by);
+    return q;
+}
+
+static int bad_size(uint32_t W, uint32_t H)
+{
+    return W < 1 || W > 1024 || H < 1 || H > 1024 || W * H > 262144;
+}
+
+static int bad_settings(const peer_settings *t)
+{
+    return t->s > 30 || t->r > 60 || t->omega < 1 || t->omega > 10000 || t->E < 1
+        || t->E > 585225 || t->t0 < 1 || t->t0 > 10000 || t->share < 1 || t->share > 1000;
+}
+
+/* ------------------------------------------------------------------ minimum */
+
+static void step_min(uint16_t *restrict o, const uint16_t *a, const uint16_t *b, int n)
+{
+    int i;
+    for (i = 0; i < n; i++) o[i] = a[i] < b[i] ? a[i] : b[i];
+}
+
+/* out[i] = least of in[max(0,i-s) .. min(n-1,i+s)]. Doubling: minima over 2, 4, 8 .. samples, then
+ * two overlapping ones make 2s+1. No carried dependency, so the compiler makes vectors of it (the
+ * block method of van Herk is kept for the columns, where a whole row is one step). */
+static void line_min(const uint16_t *restrict in, uint16_t *restrict out, int n, int s)
+{
+    uint16_t u[MAXSIDE + 64], v[MAXSIDE + 64], *from = u, *to = v, *swap;
+    int k = 2 * s + 1, len = n + 2 * s, p, i;
+    for (i = 0; i < s; i++) u[i] = u[len - 1 - i] = 65535;
+    memcpy(u + s, in, (size_t)n * sizeof *in);
+    for (p = 1; 2 * p <= k; p *= 2) {
+        len -= p;
+        step_min(to, from, from + p, len);
+        swap = from; from = to; to = swap;
+    }
+    step_min(out, from, from + (k - p), n);
+}
+
+static void row_min2(uint16_t *restrict o, const uint16_t *restrict a, const uint16_t *restrict b, int n)
+{
+    int i;
+    for (i = 0; i < n; i++) o[i] = a[i] < b[i] ? a[i] : b[i];
+}
+
+static void row_min_in(uint16_t *restrict o, const uint16_t *restrict b, int n)
+{
+    int i;
+    for (i = 0; i < n; i++) o[i] = b[i] < o[i] ? b[i] : o[i];
+}
+
+/* Window minimum of plane v (stride W) over part p, in place; the values in p alone enter.
+ * Rows first, then columns with suffix minima in v, prefix minima in t, a row at a time. */
+static void part_min(uint16_t *v, uint16_t *t, int W, part p, int s)
+{
+    int w = p.x1 - p.x0, h = p.y1 - p.y0, k = 2 * s + 1, y, b;
+    if (s == 0) return;
+    for (y = p.y0; y < p.y1; y++) {
+        uint16_t line[MAXSIDE];
+        uint16_t *row = v + (size_t)y * W + p.x0;
+        line_min(row, line, w, s);
+        memcpy(row, line, (size_t)w * sizeof *row);
+    }
+#define V(y) (v + (size_t)(p.y0 + (y)) * W + p.x0)
+#define T(y) (t + (size_t)(p.y0 + (y)) * W + p.x0)
+    for (b = 0; b < h; b += k) {
+        int e = imin(b + k, h);
+        memcpy(T(b), V(b), (size_t)w * sizeof *v);
+        for (y = b + 1; y < e; y++) row_min2(T(y), T(y - 1), V(y), w);
+        for (y = e - 2; y >= b; y--) row_min_in(V(y), V(y + 1), w);
+    }
+    /* v has the suffix minima, t the prefix minima. Output row y reads v[y-s] and t[y+s]; written
+       into t[y], whose own prefix is read by output row y-s only, which is done before. */
+    for (y = 0; y < h; y++) {
+        int lo = y - s, hi = imin(y + s, h - 1);
+        if (lo <= 0) { if (hi != y) memcpy(T(y), T(hi), (size_t)w * sizeof *v); }   /* all in block 0 */
+        else if (lo / k == hi / k && hi == h - 1) memcpy(T(y), V(lo), (size_t)w * sizeof *v);
+        else if (hi == y) row_min_in(T(y), V(lo), w);
+        else row_min2(T(y), V(lo), T(hi), w);
+    }
+    for (y = 0; y < h; y++) memcpy(V(y), T(y), (size_t)w * sizeof *v);
+#undef V
+#undef T
+}
+
+/* ------------------------------------------------------------------ light */
+
+int peer_light(uint32_t W, uint32_t H, const peer_settings *st,
+               const uint8_t *frame, size_t frame_len, uint8_t light[3], void *scratch)
+{
+    size_t n, i, m, left, best = 0;
+    uint32_t count[256], part_count[4][256];
+    int v, cutoff, best_sum = -1;
+    planes p;
+    part all;
+    if (bad_size(W, H)) return 1;
+    if (bad_settings(st)) return 2;
+    n = (size_t)W * H;
+    if (frame_len != 3 * n) return 3;
+    p = cut(scratch, n);
+    for (i = 0; i < n; i++) {
+        uint8_t r = frame[3 * i], g = frame[3 * i + 1], b = frame[3 * i + 2];
+        uint8_t x = r < g ? r : g;
+        p.mn[i] = x < b ? x : b;
+    }
+    all.x0 = all.y0 = 0; all.x1 = (int)W; all.y1 = (int)H;
+    part_min(p.mn, p.tmp, (int)W, all, (int)st->s);
+    memset(part_count, 0, sizeof part_count);           /* four, so that equal neighbours don't wait */
+    for (i = 0; i + 4 <= n; i += 4) {
+        part_count[0][p.mn[i]]++; part_count[1][p.mn[i + 1]]++;
+        part_count[2][p.mn[i + 2]]++; part_count[3][p.mn[i + 3]]++;
+    }
+    for (; i < n; i++) part_count[0][p.mn[i]]++;
+    for (v = 0; v < 256; v++)
+        count[v] = part_count[0][v] + part_count[1][v] + part_count[2][v] + part_count[3][v];
+    m = n * st->share / 1000;
+    if (m < 1) m = 1;
+    left = m;                                   /* how many of the cutoff's own value are taken */
+    for (v = 255; count[v] < left; v--) left -= count[v];
+    cutoff = v;
+    for (i = 0; i < n; i++) {
+        int sum, d = p.mn[i];
+        if (d < cutoff) continue;
+        if (d == cutoff) { if (left == 0) continue; left--; }
+        sum = frame[3 * i] + frame[3 * i + 1] + frame[3 * i + 2];
+        if (sum > best_sum) { best_sum = sum; best = i; }
+    }
+    for (v = 0; v < 3; v++) light[v] = frame[3 * best + v] ? frame[3 * best + v] : 1;
+    return 0;
+}
+
+/* ------------------------------------------------------------------ clear */
+
+/* floor(num / den), |quotient| below 2^40, den > 0: a double's guess, then set right. */
+static inline int64_t floor_fix(int64_t q, int64_t num, int64_t den)
+{
+    int64_t rest = num - q * den;
+    return q + (rest >= den) - (rest < 0);
+}
+static inline int64_t floor_div(int64_t num, int64_t den)
+{
+    return floor_fix((int64_t)((double)num / (double)den), num, den);
+}
+
+/* Window sums along a row: out[x - x0] = sum of c[max(0,x-r) - c0 .. min(W-1,x+r) - c0]. */
+#define RUNNING(name, in_t, sum_t)                                                              \
+    static void name(const in_t *restrict c, sum_t *restrict out, int c0, int x0, int x1, int r, int W) \
+    {                                                                                           \
+        int x, e = imin(W, x0 + r + 1), k;                                                      \
+        sum_t S = 0;                                                                            \
+        for (k = imax(0, x0 - r); k < e; k++) S += c[k - c0];                                   \
+        out[0] = S;                                                                             \
+        for (x = x0 + 1; x < imin(x1, r + 1); x++) {      /* nothing leaves yet */               \
+            if (x + r < W) S += c[x + r - c0];                                                  \
+            out[x - x0] = S;                                                                    \
+        }                                                                                       \
+        for (; x < imin(x1, W - r); x++) {                                                      \
+            S += (sum_t)c[x + r - c0] - (sum_t)c[x - r - 1 - c0];                               \
+            out[x - x0] = S;                                                                    \
+        }                                                                                       \
+        for (; x < x1; x++) {                             /* nothing enters any more */          \
+            if (x - r - 1 >= 0) S -= c[x - r - 1 - c0];                                         \
+            out[x - x0] = S;                                                                    \
+        }                                                                                       \
+    }
+RUNNING(run_u32, uint32_t, uint32_t)
+RUNNING(run_u64, uint32_t, uint64_t)
+RUNNING(run_a, int32_t, int64_t)
+RUNNING(run_b, int64_t, int64_t)
+
+/* Column sums over the window's rows for guide, coarse value and products. */
+typedef struct { uint32_t g[MAXSIDE], t[MAXSIDE], gg[MAXSIDE], gt[MAXSIDE]; } cols4;
+
+static void cols4_row(cols4 *c, const uint16_t *restrict g, const uint16_t *restrict t, int n, int add)
+{
+    int i;
+    if (add)
+        for (i = 0; i < n; i++) {
+            uint32_t x = g[i], y = t[i];
+            c->g[i] += x; c->t[i] += y; c->gg[i] += x * x; c->gt[i] += x * y;
+        }
+    else
+        for (i = 0; i < n; i++) {
+            uint32_t x = g[i], y = t[i];
+            c->g[i] -= x; c->t[i] -= y; c->gg[i] -= x * x; c->gt[i] -= x * y;
+        }
+}
+
+/* Slopes and offsets over part o; the coarse values and guides they need lie in part i. */
+static void slopes(const planes *p, int W, int H, part o, part in, int r, int64_t E)
+{
+    cols4 c;
+    uint32_t Sg[MAXSIDE], St[MAXSIDE];
+    uint64_t Sgg[MAXSIDE], Sgt[MAXSIDE];
+    int x, y, top = imax(0, o.y0 - r), bottom = top;    /* rows top..bottom are in the column sums */
+    int w = in.x1 - in.x0;
+    memset(&c, 0, sizeof c);
+    for (y = o.y0; y < o.y1; y++) {
+        int want_top = imax(0, y - r), want_bottom = imin(H, y + r + 1);
+        int64_t rows, n = 0;
+        double inv = 0;
+        int32_t *pa = p->a + (size_t)y * W, *pb = p->b + (size_t)y * W;
+        for (; bottom < want_bottom; bottom++)
+            cols4_row(&c, p->g + (size_t)bottom * W + in.x0, p->mn + (size_t)bottom * W + in.x0, w, 1);
+        for (; top < want_top; top++)
+            cols4_row(&c, p->g + (size_t)top * W + in.x0, p->mn + (size_t)top * W + in.x0, w, 0);
+        run_u32(c.g, Sg, in.x0, o.x0, o.x1, r, W);
+        run_u32(c.t, St, in.x0, o.x0, o.x1, r, W);
+        run_u64(c.gg, Sgg, in.x0, o.x0, o.x1, r, W);
+        run_u64(c.gt, Sgt, in.x0, o.x0, o.x1, r, W);
+        rows = want_bottom - want_top;
+        for (x = o.x0; x < o.x1; x++) {
+            int k = x - o.x0;
+            int64_t g = Sg[k], t = St[k], P, Q, a, num, m = rows * (imin(W, x + r + 1) - imax(0, x - r));
+            if (m != n) { n = m; inv = 1.0 / (double)n; }
+            P = n * (int64_t)Sgt[k] - g * t;
+            Q = n * (int64_t)Sgg[k] - g * g + n * n * E;
+            a = floor_div(1024 * P, Q);
+            num = 1024 * t - a * g;
+            pa[x] = (int32_t)a;
+            pb[x] = (int32_t)floor_fix((int64_t)((double)num * inv), num, n);
+        }
+    }
+}
+
+typedef struct { int32_t a[MAXSIDE]; int64_t b[MAXSIDE]; } cols2;
+
+static void cols2_row(cols2 *c, const int32_t *restrict a, const int32_t *restrict b, int n, int add)
+{
+    int i;
+    if (add) for (i = 0; i < n; i++) { c->a[i] += a[i]; c->b[i] += b[i]; }
+    else     for (i = 0; i < n; i++) { c->a[i] -= a[i]; c->b[i] -= b[i]; }
+}
+
+/* The recovery of one row with one division a pixel, exact in single precision: with N = |I-A|*10000,
+ * at most 2,540,000, N + 1/2 is a float, and (N + 1/2)/T lies at least 1/(2T) from any whole number,
+ * while two roundings move it by less than N/T * 2^-23, below 0.31/T. */
+static inline uint8_t recovered(int I, int A, float inv)
+{
+    int d = I - A, m = d < 0 ? -d : d, q = (int)(((float)(m * 10000) + 0.5f) * inv);
+    int v = d < 0 ? A - q : A + q;
+    v = v < 0 ? 0 : v;
+    return (uint8_t)(v > 255 ? 255 : v);
+}
+
+static void recover_row(const uint8_t *restrict in, uint8_t *restrict out, const uint16_t *restrict map,
+                        int n, const uint8_t light[3], int t0)
+{
+    float inv[MAXSIDE];
+    int i, A0 = light[0], A1 = light[1], A2 = light[2];
+    for (i = 0; i < n; i++) inv[i] = 1.0f / (float)(map[i] > t0 ? map[i] : t0);
+    for (i = 0; i < n; i++) {
+        out[3 * i] = recovered(in[3 * i], A0, inv[i]);
+        out[3 * i + 1] = recovered(in[3 * i + 1], A1, inv[i]);
+        out[3 * i + 2] = recovered(in[3 * i + 2], A2, inv[i]);
+    }
+}
+
+static void refine(const planes *p, int W, int H, part o, part in, int r,
+                   const uint8_t *frame, const uint8_t light[3], int t0, uint16_t *map, uint8_t *pic)
+{
+    cols2 c;
+    int64_t Sa[MAXSIDE], Sb[MAXSIDE];
+    int x, y, top = imax(0, o.y0 - r), bottom = top, w = in.x1 - in.x0;
+    memset(&c, 0, sizeof c);
+    for (y = o.y0; y < o.y1; y++) {
+        int want_top = imax(0, y - r), want_bottom = imin(H, y + r + 1);
+        int64_t rows, n = 0;
+        uint64_t inv = 0;
+        size_t at = (size_t)y * W;
+        for (; bottom < want_bottom; bottom++)
+            cols2_row(&c, p->a + (size_t)bottom * W + in.x0, p->b + (size_t)bottom * W + in.x0, w, 1);
+        for (; top < want_top; top++)
+            cols2_row(&c, p->a + (size_t)top * W + in.x0, p->b + (size_t)top * W + in.x0, w, 0);
+        run_a(c.a, Sa, in.x0, o.x0, o.x1, r, W);
+        run_b(c.b, Sb, in.x0, o.x0, o.x1, r, W);
+        rows = want_bottom - want_top;
+        for (x = o.x0; x < o.x1; x++) {
+            int64_t v, m = rows * (imin(W, x + r + 1) - imax(0, x - r));
+            if (m != n) { n = m; inv = ((uint64_t)1 << 44) / (uint64_t)n + 1; }
+            v = (Sa[x - o.x0] * p->g[at + x] + Sb[x - o.x0]) >> 10;   /* floor; the next floor by n is exact */
+            v = v < 0 ? 0 : v;
+            v = v > 10000 * n ? 10000 * n : v;
+            map[at + x] = (uint16_t)(((uint64_t)v * inv) >> 44);      /* v*n is below 2^44, so exact */
+        }
+        recover_row(frame + 3 * (at + o.x0), pic + 3 * (at + o.x0), map + at + o.x0,
+                    o.x1 - o.x0, light, t0);
+    }
+}
+
+static void clear_part(int W, int H, const peer_settings *st, const uint8_t *frame,
+                       const uint8_t light[3], part out, uint16_t *map, uint8_t *pic, void *scratch)
+{
+    planes p = cut(scratch, (size_t)W * H);
+    int s = (int)st->s, r = (int)st->r, c, i, x, y;
+    part slope = grown(out, r, W, H), coarse = grown(slope, r, W, H), ratio = grown(coarse, s, W, H);
+    uint16_t table[3][256];
+    for (c = 0; c < 3; c++)
+        for (i = 0; i < 256; i++) {
+            int q = 10000 * i / light[c];
+            table[c][i] = (uint16_t)imin(q, 10000);
+        }
+    for (y = ratio.y0; y < ratio.y1; y++)
+        for (x = ratio.x0; x < ratio.x1; x++) {
+            size_t k = (size_t)y * W + x;
+            const uint8_t *f = frame + 3 * k;
+            uint16_t q = table[0][f[0]], u = table[1][f[1]], v = table[2][f[2]];
+            q = u < q ? u : q;
+            p.mn[k] = v < q ? v : q;
+            p.g[k] = (uint16_t)(f[0] + f[1] + f[2]);
+        }
+    part_min(p.mn, p.tmp, W, ratio, s);
+    for (y = coarse.y0; y < coarse.y1; y++) {
+        uint16_t *row = p.mn + (size_t)y * W;
+        for (x = coarse.x0; x < coarse.x1; x++)
+            row[x] = (uint16_t)(10000 - st->omega * row[x] / 10000);
+    }
+    slopes(&p, W, H, slope, coarse, r, st->E);
+    refine(&p, W, H, out, slope, r, frame, light, (int)st->t0, map, pic);
+}
+
+static int clear_refused(uint32_t W, uint32_t H, const peer_settings *st, size_t frame_len,
+                         const uint8_t light[3], size_t map_len, size_t pic_len)
+{
+    size_t n;
+    if (bad_size(W, H)) return 1;
+    if (bad_settings(st)) return 2;
+    n = (size_t)W * H;
+    if (frame_len != 3 * n) return 3;
+    if (pic_len != 3 * n || map_len != n) return 4;
+    if (!light[0] || !light[1] || !light[2]) return 5;
+    return 0;
+}
+
+int peer_clear(uint32_t W, uint32_t H, const peer_settings *st,
+               const uint8_t *frame, size_t frame_len, const uint8_t light[3],
+               uint16_t *map, size_t map_len, uint8_t *pic, size_t pic_len, void *scratch)
+{
+    part all;
+    int no = clear_refused(W, H, st, frame_len, light, map_len, pic_len);
+    if (no) return no;
+    all.x0 = all.y0 = 0; all.x1 = (int)W; all.y1 = (int)H;
+    clear_part((int)W, (int)H, st, frame, light, all, map, pic, scratch);
+    return 0;
+}
+
+int peer_replace(uint32_t W, uint32_t H, const peer_settings *st,
+                 uint8_t *frame, size_t frame_len, const uint8_t light[3],
+                 uint32_t x, uint32_t y, uint32_t w, uint32_t h,
+                 const uint8_t *px, size_t px_len,
+                 uint16_t *map, size_t map_len, uint8_t *pic, size_t pic_len, void *scratch)
+{
+    part rect;
+    uint32_t j;
+    int no = clear_refused(W, H, st, frame_len, light, map_len, pic_len);
+    if (no) return no;
+    if (w < 1 || h < 1 || x >= W || y >= H || w > W - x || h > H - y) return 6;
+    if (px_len != (size_t)3 * w * h) return 7;
+    for (j = 0; j < h; j++)
+        memcpy(frame + 3 * ((size_t)(y + j) * W + x), px + (size_t)3 * j * w, (size_t)3 * w);
+    rect.x0 = (int)x; rect.x1 = (int)(x + w); rect.y0 = (int)y; rect.y1 = (int)(y + h);
+    clear_part((int)W, (int)H, st, frame, light,
+               grown(rect, (int)(st->s + 2 * st->r), (int)W, (int)H), map, pic, scratch);
+    return 0;
+}
+
+/* ------------------------------------------------------------------ haze and band figure */
+
+int peer_add(uint32_t W, uint32_t H, const uint8_t *clean, size_t clean_len,
+              const uint8_t light[3], const uint16_t *map, size_t map_len,
+              uint8_t *hazy, size_t hazy_len)
+{
+    size_t n, i;
+    uint16_t top = 0;
+    uint32_t A0, A1, A2;
+    if (bad_size(W, H)) return 1;
+    n = (size_t)W * H;
+    if (clean_len != 3 * n) return 3;
+    if (hazy_len != 3 * n || map_len != n) return 4;
+    if (!light[0] || !light[1] || !light[2]) return 5;
+    for (i = 0; i < n; i++) top = map[i] > top ? map[i] : top;
+    if (top > 10000) return 8;
+    A0 = light[0]; A1 = light[1]; A2 = light[2];
+    for (i = 0; i < n; i++) {
+        uint32_t t = map[i], u = 10000 - t;
+        hazy[3 * i] = (uint8_t)((clean[3 * i] * t + A0 * u + 5000) / 10000);
+        hazy[3 * i + 1] = (uint8_t)((clean[3 * i + 1] * t + A1 * u + 5000) / 10000);
+        hazy[3 * i + 2] = (uint8_t)((clean[3 * i + 2] * t + A2 * u + 5000) / 10000);
+    }
+    return 0;
+}
+
+int peer_band(uint32_t W, uint32_t H, const uint16_t *map, size_t map_len,
+              uint32_t from, uint32_t to, double *mean, double *least)
+{
+    size_t n, i;
+    uint64_t sum = 0;
+    uint16_t top = 0, low = 65535;
+    if (bad_size(W, H)) return 1;
+    n = (size_t)W * H;
+    if (map_len != n) return 4;
+    if (from >= to || to > H) return 6;
+    for (i = 0; i < n; i++) top = map[i] > top ? map[i] : top;
+    if (top > 10000) return 8;
+    for (i = (size_t)from * W; i < (size_t)to * W; i++) {
+        sum += map[i];
+        low = map[i] < low ? map[i] : low;
+    }
+    *mean = (double)sum / (double)(10000 * (uint64_t)(to - from) * W);
+    *least = (double)low / 10000.0;
+    return 0;
+}

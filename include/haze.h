@@ -1,0 +1,81 @@
+/* Haze: the light of a hazy frame, the frame cleared of its haze, a part of it replaced, haze added, and what a band of rows lets through.
+ *
+ * A frame is w columns by h rows, row after row from the top, each pixel red, green and blue, one byte each: 3*w*h bytes.
+ * A map has one entry a pixel, in ten-thousandths: 10000 is transmission 1.
+ * The work area is lent by the caller: HAZE_WORK(w, h) entries or more. Nothing is allocated and nothing is kept between two calls.
+ *
+ * Every function is proved to end, on every input, with the answer and the buffers that are said here. It returns 0, or the lowest number
+ * of the table below that applies. When it returns a number other than 0, all that it was lent holds what it held: buffers, work area and
+ * the places for results.
+ * After a call that returns 0 the first HAZE_WORK(w, h) entries of the work area are 0, and the rest is untouched. What it held before means nothing.
+ *
+ * What the caller must keep, since no function can see it:
+ * - A pointer is valid for its length: n bytes, or n entries of 2 or of 8 bytes, that may be read, and written where it is not const. It is aligned to
+ *   its type, and it is not null, for a length of 0 either. A length is a count of entries, not of bytes.
+ * - What is lent for writing overlaps nothing else that is lent to the same call. The places for results are lent for writing.
+ * - No other thread writes what is lent while the call runs, nor reads what is lent for writing. Calls on buffers of their own may run side by side.
+ */
+#ifndef HAZE_H
+#define HAZE_H
+
+#include <stddef.h>
+#include <stdint.h>
+
+#ifdef __cplusplus
+extern "C" {
+#endif
+
+/* How many entries of the work area a call on w columns and h rows uses. */
+#define HAZE_WORK(w, h) (8 * ((size_t)(w) + 1) * ((size_t)(h) + 1))
+
+enum haze_answer {
+    HAZE_DONE = 0,
+    HAZE_BAD_SIZE = 1,     /* w or h is not 1 to 1024, or w*h is above 262144 */
+    HAZE_BAD_SETTING = 2,  /* a setting is outside its range */
+    HAZE_BAD_FRAME = 3,    /* the frame that is read, or replaced in, is not 3*w*h bytes */
+    HAZE_BAD_BUFFER = 4,   /* the picture or the hazy frame is not 3*w*h bytes, a map not w*h entries, or the work area is too small */
+    HAZE_BAD_LIGHT = 5,    /* a channel of the light is 0 */
+    HAZE_BAD_PLACE = 6,    /* the rectangle or the band is empty or reaches outside the frame */
+    HAZE_BAD_PIXELS = 7,   /* the new pixels are not 3*width*height bytes */
+    HAZE_BAD_ENTRY = 8     /* an entry of a map that is read is above 10000, anywhere in it */
+};
+
+/* The settings, in the order of the parameters; all six are judged, used or not:
+ *   s      0 to 30       radius of the dark value                      usually 7
+ *   r      0 to 60       radius of the filter                          usually 30
+ *   omega  1 to 10000    how much of the haze goes, in ten-thousandths usually 9500
+ *   e      1 to 585225   regularisation, in squared guide units        usually 59
+ *   t0     1 to 10000    floor of the transmission                     usually 1000
+ *   share  1 to 1000     pixels that may give the light, per thousand  usually 1
+ */
+
+/* Light: finds the ambient light of a frame. Checks 1, 2, 3, 4. The light's channels, each at least 1, go to *red, *green and *blue. */
+uint8_t haze_light(uint64_t w, uint64_t h, uint64_t s, uint64_t r, uint64_t omega, uint64_t e, uint64_t t0, uint64_t share,
+                   const uint8_t *frame, size_t frame_len, int64_t *work, size_t work_len, uint8_t *red, uint8_t *green, uint8_t *blue);
+
+/* Clear: the transmission map and the cleared picture of a frame under a light. Checks 1 to 5. */
+uint8_t haze_clear(uint64_t w, uint64_t h, uint64_t s, uint64_t r, uint64_t omega, uint64_t e, uint64_t t0, uint64_t share,
+                   uint8_t red, uint8_t green, uint8_t blue, const uint8_t *frame, size_t frame_len,
+                   uint16_t *map, size_t map_len, uint8_t *picture, size_t picture_len, int64_t *work, size_t work_len);
+
+/* Replace: the new pixels, row after row, go into the frame at the rectangle of width columns from column on and height rows from row on. Map entries
+ * and picture pixels at most s + 2r rows and columns from it become those that haze_clear gives for the new frame; all others stay. Checks 1 to 7.
+ * After haze_clear and any calls of haze_replace with the same size, settings and light, map and picture are those of a haze_clear of the frame. */
+uint8_t haze_replace(uint64_t w, uint64_t h, uint64_t s, uint64_t r, uint64_t omega, uint64_t e, uint64_t t0, uint64_t share,
+                     uint8_t red, uint8_t green, uint8_t blue, uint64_t column, uint64_t row, uint64_t width, uint64_t height,
+                     const uint8_t *pixels, size_t pixels_len, uint8_t *frame, size_t frame_len,
+                     uint16_t *map, size_t map_len, uint8_t *picture, size_t picture_len, int64_t *work, size_t work_len);
+
+/* Haze: the hazy frame that a clean one gives under a light at the transmissions of a map. Checks 1, 3, 4, 5, 8. */
+uint8_t haze_add(uint64_t w, uint64_t h, uint8_t red, uint8_t green, uint8_t blue, const uint8_t *clean, size_t clean_len,
+                 const uint16_t *map, size_t map_len, uint8_t *hazy, size_t hazy_len);
+
+/* Band figure: of the rows from..to of a map, the last left out, the mean transmission goes to *mean and the least to *least. Each is one division of two
+ * whole numbers in doubles, so it is fixed to the bit. Checks 1, 4, 6, 8. */
+uint8_t haze_band(uint64_t w, uint64_t h, const uint16_t *map, size_t map_len, uint64_t from, uint64_t to, double *mean, double *least);
+
+#ifdef __cplusplus
+}
+#endif
+
+#endif
