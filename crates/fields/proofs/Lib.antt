@@ -6,3 +6,4 @@ pub mod Alike
 pub mod Numerals
 pub mod Written
 pub mod Lines
+pub mod Decimal

@@ -15,7 +15,7 @@ use Rattle.fields.specs.declared.Line.{Line}
 use Rattle.fields.specs.declared.Line.the-variants.{Ends, Broken}
 use Rattle.fields.specs.Bytes.{classOf, counted, onClass, scan, lineOf, usual, plain}
 use Rattle.fields.specs.Fields.{consHead, joined, split, every}
-use Rattle.fields.specs.Decimal.{digit, digits, led, numeral}
+use Rattle.fields.specs.Decimal.{digit, digits, figured, led, numeral}
 
 -- ---- the separators by their classes
 
@@ -203,5 +203,5 @@ plain-digits [] h = refl
 plain-digits (b ∷ bs) h = let p = both (digit b) (digits bs) h in rw (p .0) (plain-digits bs (p .1))
 
 pub plain-numeral : (s : List ℕ) → numeral s ≡ true → plain s ≡ true
-unfolding numeral
-plain-numeral s h = plain-digits s (both (ltb 0 (length s) && leb (length s) 6 && led s) (digits s) h .1)
+unfolding numeral figured
+plain-numeral s h = plain-digits s (both (ltb 0 (length s) && leb (length s) 6) (digits s) (both (led s) (figured s) h .1) .1)

@@ -10,7 +10,7 @@ use lib.ListN.{length, getD, drop, drop-of-length-le}
 use borrow.Author.Tests.{eq-eqb, ne-eqb, lt-ltb, le-ltb, le-leb, lt-leb}
 use Rattle.fields.specs.declared.Number.the-variants.{Is, Bad}
 use Rattle.fields.proofs.Steps.{step}
-use Rattle.fields.specs.Decimal.{digits, valueFrom, led, numeral, numberOf}
+use Rattle.fields.specs.Decimal.{digits, valueFrom, figured, digitsOf, led, numeral, numberOf}
 
 module _ (s : List ℕ) (i : ℕ) (h : i < length s) where
   pub value-step : (v : ℕ) → valueFrom v (drop i s) ≡ valueFrom (10 * v + (getD s i 0 - 48)) (drop (i + 1) s)
@@ -41,30 +41,35 @@ ten-most i h = pow-le-pow-right {n = 10} (omega arith) h
 -- ---- which answer
 
 module _ (s : List ℕ) where
-  pub bad-empty : length s ≡ 0 → Bad ≡ numberOf s
-  unfolding numberOf numeral
+  pub bad-empty : length s ≡ 0 → Bad ≡ digitsOf s
+  unfolding digitsOf figured
   bad-empty e = rw (le-ltb 0 (length s) (omega arith))
 
-  pub bad-long : 6 < length s → Bad ≡ numberOf s
-  unfolding numberOf numeral
+  pub bad-long : 6 < length s → Bad ≡ digitsOf s
+  unfolding digitsOf figured
   bad-long l = rw (lt-ltb 0 (length s) (omega arith), lt-leb (length s) 6 l)
 
   module _ (some : 0 < length s) (short : length s ≤ 6) where
-    pub bad-led : 1 < length s → getD s 0 0 ≡ 48 → Bad ≡ numberOf s
-    unfolding numberOf numeral
-    bad-led l e = rw (lt-ltb 0 (length s) some, le-leb (length s) 6 short, lt-ltb 1 (length s) l, eq-eqb (getD s 0 0) 48 e)
+    pub bad-digits : digits s ≡ false → Bad ≡ digitsOf s
+    unfolding digitsOf figured
+    bad-digits e = rw (lt-ltb 0 (length s) some, le-leb (length s) 6 short, e)
 
-    module _ (ok : led s ≡ true) where
-      pub bad-digits : digits s ≡ false → Bad ≡ numberOf s
-      unfolding numberOf numeral
-      bad-digits e = rw (lt-ltb 0 (length s) some, le-leb (length s) 6 short, ok, e)
+    pub good : digits s ≡ true → Is (valueFrom 0 s) ≡ digitsOf s
+    unfolding digitsOf figured
+    good e = rw (lt-ltb 0 (length s) some, le-leb (length s) 6 short, e)
 
-      pub good : digits s ≡ true → Is (valueFrom 0 s) ≡ numberOf s
-      unfolding numberOf numeral
-      good e = rw (lt-ltb 0 (length s) some, le-leb (length s) 6 short, ok, e)
+  -- ---- no leading zero
 
-  pub led-one : length s ≤ 1 → led s ≡ true
-  led-one l = rw (le-ltb 1 (length s) l)
+  pub bad-led : 1 < length s → getD s 0 0 ≡ 48 → Bad ≡ numberOf s
+  unfolding numberOf numeral
+  bad-led l e = rw (lt-ltb 1 (length s) l, eq-eqb (getD s 0 0) 48 e)
 
-  pub led-more : 1 < length s → (getD s 0 0 ≡ 48 → ⊥) → led s ≡ true
-  led-more l n = rw (lt-ltb 1 (length s) l, ne-eqb (getD s 0 0) 48 n)
+  led-is : led s ≡ true → digitsOf s ≡ numberOf s
+  unfolding numberOf numeral digitsOf
+  led-is e = rw e
+
+  pub led-one : length s ≤ 1 → digitsOf s ≡ numberOf s
+  led-one l = led-is (rw (le-ltb 1 (length s) l))
+
+  pub led-more : 1 < length s → (getD s 0 0 ≡ 48 → ⊥) → digitsOf s ≡ numberOf s
+  led-more l n = led-is (rw (lt-ltb 1 (length s) l, ne-eqb (getD s 0 0) 48 n))

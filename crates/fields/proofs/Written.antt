@@ -1,6 +1,6 @@
 -- Laws of writing: one piece after another, one byte more of a word, the digits of a number. Assumes nothing.
 use mathlib.Core.Path.{_≡_, refl, sym, ap, ap₂, _∙_}
-use mathlib.Core.List.{List, [], _∷_, _++_}
+use mathlib.Core.List.{List, [], _∷_, _++_, append-nil}
 use Prim.Native.Nat.{ℕ, zero, suc, _+_, _/_, _%_, _^_, _≤_, _<_}
 use native.Mathlib.Nat.{add-zero, pow-succ'}
 use native.Mathlib.Decide.{decLt}
@@ -120,6 +120,12 @@ most (suc d) n h = go (decLt n 10) (λ k. most d (n / 10) k)
         let m = more k in
         let e = length-more n (let z : 10 ≤ n = omega arith in z) in
         omega arith
+
+-- what is written over the whole of the memory is all that stands there
+pub wrote-all : {bytes out out′ : List ℕ} {end : ℕ} → Wrote bytes out 0 out′ end → length bytes ≡ length out → out′ ≡ bytes
+wrote-all {bytes} {out} w e =
+    w .is ∙ sets-eq bytes out 0 (let z : 0 + length bytes ≤ length out = omega arith in z)
+    ∙ ap (λ (l : List ℕ). bytes ++ l) (drop-of-length-le out (let z : length out ≤ 0 + length bytes = omega arith in z)) ∙ append-nil bytes
 
 -- no second output and no second end meet the promise of a writer
 pub wrote-one : (bytes out : List ℕ) (at : ℕ) (out′ out″ : List ℕ) (end end′ : ℕ) → Wrote bytes out at out′ end → Wrote bytes out at out″ end′ → (out′ ≡ out″) × (end ≡ end′)

@@ -1,4 +1,4 @@
--- Numbers in decimal: read, 1 to 6 digits with no leading zero but 0 itself, and written. Assumes nothing.
+-- Numbers in decimal: read, 1 to 6 digits, with leading zeros or without, and written. Assumes nothing.
 use mathlib.Core.Bool.{Bool, true, cond, not, _&&_}
 use mathlib.Core.List.{List, [], _∷_, _++_}
 use Prim.Native.Nat.{ℕ, zero, suc, _+_, _-_, _*_, _/_, _%_}
@@ -16,17 +16,26 @@ abbrev pub digits : List ℕ → Bool
 digits [] = true
 digits (b ∷ bs) = digit b && digits bs
 
+-- 1 to 6 digits
+unfoldable pub figured : List ℕ → Bool
+figured s = ltb 0 (length s) && leb (length s) 6 && digits s
+
 -- one digit, or more of which the first is not 0
 abbrev pub led : List ℕ → Bool
 led s = not (ltb 1 (length s) && eqb (getD s 0 0) 48)
 
 unfoldable pub numeral : List ℕ → Bool
-numeral s = ltb 0 (length s) && leb (length s) 6 && led s && digits s
+numeral s = led s && figured s
 
 abbrev pub valueFrom : ℕ → List ℕ → ℕ
 valueFrom v [] = v
 valueFrom v (b ∷ bs) = valueFrom (10 * v + (b - 48)) bs
 
+-- zeros may lead
+unfoldable pub digitsOf : List ℕ → Number
+digitsOf s = cond (figured s) (Is (valueFrom 0 s)) Bad
+
+-- no leading zero but 0 itself
 unfoldable pub numberOf : List ℕ → Number
 numberOf s = cond (numeral s) (Is (valueFrom 0 s)) Bad
 

@@ -7,7 +7,7 @@ ghost use Rattle.fields.specs.Bytes.{classOf, lineOf};
 ghost use Rattle.fields.specs.Fields.{Ends, same as sameList};
 ghost use Rattle.fields.specs.Parts.{FieldOf};
 ghost use Rattle.fields.specs.Written.{Wrote, columns, row};
-ghost use Rattle.fields.specs.Decimal.{numberOf, decimal};
+ghost use Rattle.fields.specs.Decimal.{digitsOf, numberOf, decimal};
 
 // Every byte of a text is one of these.
 pub enum Class {
@@ -125,20 +125,15 @@ pub enum Number {
     Bad,
 }
 
-// Decimal, 1 to 6 digits, no sign, no leading zero but 0 itself.
-pub fn read_number(s: &[u8]) -> Number
-    ensures { λ r. ⌜ r ≡ numberOf (now (s .entry)) ⌝ }
+// Decimal, 1 to 6 digits, no sign; zeros may lead.
+pub fn read_digits(s: &[u8]) -> Number
+    ensures { λ r. ⌜ r ≡ digitsOf (now (s .entry)) ⌝ }
 {
     if s.len() == 0 {
         return Number::Bad;
     }
     if s.len() > 6 {
         return Number::Bad;
-    }
-    if s.len() > 1 {
-        if s[0] == b'0' {
-            return Number::Bad;
-        }
     }
     let mut v = 0;
     let mut i = 0;
@@ -154,6 +149,18 @@ pub fn read_number(s: &[u8]) -> Number
         i += 1;
     }
     Number::Is(v)
+}
+
+// Such a number with no leading zero but 0 itself.
+pub fn read_number(s: &[u8]) -> Number
+    ensures { λ r. ⌜ r ≡ numberOf (now (s .entry)) ⌝ }
+{
+    if s.len() > 1 {
+        if s[0] == b'0' {
+            return Number::Bad;
+        }
+    }
+    read_digits(s)
 }
 
 // Writes a number in decimal from at on, and answers where it ends.

@@ -2,7 +2,7 @@
 use mathlib.Core.Path.{_≡_, refl}
 use mathlib.Core.List.{map}
 use Rattle.fields.specs.Words.{bytes}
-use Rattle.fields.specs.Decimal.{decimal, numeral, numberOf}
+use Rattle.fields.specs.Decimal.{decimal, figured, numeral, numberOf}
 use Rattle.fields.specs.Fields.{fieldOf}
 use Rattle.rules.specs.Refusals.{badSize, badSettings}
 use Rattle.rules.specs.Window.{square, window}
@@ -16,5 +16,5 @@ use Rattle.text.specs.Text.{verdict, outLine, outs, lightLine, badLine, 
 use Rattle.text.specs.Cases.{table}
 
 pub cases : map (λ r. reply (bytes (r .input))) table ≡ map (λ r. bytes (r .want)) table
-unfolding table reply verdict fault laid numberAt sizeOf settingsOf colourOf large bright painted outLine outs lightLine badLine shown decimal numeral numberOf fieldOf badSize badSettings square window dark rank candidates light coarse line refine sample fit refined recover recover3 cleared pixels written entries clear
+unfolding table reply verdict fault laid numberAt sizeOf settingsOf colourOf large bright painted outLine outs lightLine badLine shown decimal figured numeral numberOf fieldOf badSize badSettings square window dark rank candidates light coarse line refine sample fit refined recover recover3 cleared pixels written entries clear
 cases = refl

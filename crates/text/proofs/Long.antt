@@ -19,6 +19,7 @@ use Rattle.fields.specs.Words.{bytes}
 use Rattle.fields.specs.Bytes.{classOf, counted, onClass, scan, lineOf}
 use Rattle.fields.specs.Fields.{joined, split, fieldOf, every, same}
 use Rattle.fields.specs.Decimal.{digit, led, digits, numeral, valueFrom, numberOf, valueIn}
+use Rattle.fields.proofs.Decimal.{numeral-most, numeral-led, numeral-digits}
 use Rattle.fields.proofs.Lines.{both, some-part, broken, Ended, ended}
 use Rattle.records.specs.declared.Kind.{Kind}
 use Rattle.records.specs.declared.Kind.the-variants.{Size, Set, Px}
@@ -53,18 +54,15 @@ value-of s h = rw h
 
 -- a number below 10 ^ n has at most n digits
 numeral-short : (n : ℕ) (s : List ℕ) → 0 < n → numeral s ≡ true → valueIn (numberOf s) < 10 ^ n → length s ≤ n
-unfolding numeral
 numeral-short n [] o h v = omega arith
 numeral-short n (b ∷ bs) o h v = go (decLt n (suc (length bs)))
   where
     go : Dec (n < suc (length bs)) → suc (length bs) ≤ n
     go (no s) = omega arith
     go (yes s) =
-        let p = both (ltb 0 (suc (length bs)) && leb (suc (length bs)) 6 && led (b ∷ bs)) (digits (b ∷ bs)) h in
-        let l = both (ltb 0 (suc (length bs)) && leb (suc (length bs)) 6) (led (b ∷ bs)) (p .0) .1 in
-        let d = both (leb 48 b) (leb b 57) (both (digit b) (digits bs) (p .1) .0) .0 in
+        let d = both (leb 48 b) (leb b 57) (both (digit b) (digits bs) (numeral-digits (b ∷ bs) h) .0) .0 in
         let low : 48 ≤ b = leb-true 48 b d in
-        let more : b ≡ 48 → ⊥ = led-first b bs (omega arith) l in
+        let more : b ≡ 48 → ⊥ = led-first b bs (omega arith) (numeral-led (b ∷ bs) h) in
         let first : 1 ≤ 10 * 0 + (b - 48) = omega arith in
         let a : 10 ^ (0 + length bs) ≤ valueFrom (10 * 0 + (b - 48)) bs = value-least bs 0 (10 * 0 + (b - 48)) first in
         let c : 10 ^ n ≤ 10 ^ (0 + length bs) = pow-le-pow-right {n = 10} (omega arith) (let z : n ≤ 0 + length bs = omega arith in z) in
@@ -87,18 +85,11 @@ span-split (x ∷ xs) = go (eqb x 9) (split 9 xs) (some-part 9 xs) (span-split x
     go true (f ∷ fs) h e = omega arith
     go false (f ∷ fs) h e = omega arith
 
-six : (f : List ℕ) → numeral f ≡ true → length f ≤ 6
-unfolding numeral
-six f h =
-    let a = both (ltb 0 (length f) && leb (length f) 6 && led f) (digits f) h in
-    let b = both (ltb 0 (length f) && leb (length f) 6) (led f) (a .0) in
-    leb-true (length f) 6 (both (ltb 0 (length f)) (leb (length f) 6) (b .0) .1)
-
 span-numbers : (fs : List (List ℕ)) → every numeral fs ≡ true → span fs ≤ 7 * length fs
 span-numbers [] h = omega arith
 span-numbers (f ∷ fs) h =
     let p = both (numeral f) (every numeral fs) h in
-    let a = six f (p .0) in
+    let a = numeral-most f (p .0) in
     let b = span-numbers fs (p .1) in
     omega arith
 

@@ -1,131 +1,25 @@
--- `fields::read_number` meets its contract. The invariant: the digits that are left, read on from the present value, give the number. Assumes nothing.
-use mathlib.Core.Path.{_≡_, refl, sym, ap, _∙_}
+-- `fields::read_number` meets its contract: no zero leads, and the digits are read. Assumes nothing.
+use mathlib.Core.Path.{_∙_}
 use mathlib.Core.Logic.{⊎-elim}
-use mathlib.Core.Bool.{true}
-use Prim.Native.Nat.{_≤_, _<_, _-_, _^_}
 use native.Mathlib.Omega.{arith}
-use lib.ListN.{length, drop}
-use Rattle.fields.specs.declared.Number.the-variants.{Is}
-use Rattle.fields.specs.Decimal.{digits, valueFrom, led}
-use Rattle.fields.proofs.Numerals.{value-step, digits-step, digits-low, digits-high, digits-end, value-end, ten-more, ten-most, bad-empty, bad-long, bad-led, bad-digits, good, led-one, led-more}
+use borrow.Author.Needs.{needs}
+use Rattle.fields.proofs.Numerals.{bad-led, led-one, led-more}
 use Rattle.fields.proofs.read_number.Statement.{statement}
 use Rattle.fields.proofs.read_number.Tie as tie
 
-abbrev Inv-loop : tie.InvT-loop
-Inv-loop s v₀ i₀ v i =
-    (i ≤ length s) × (digits s ≡ digits (drop i s)) × (valueFrom 0 s ≡ valueFrom v (drop i s)) × (v < 10 ^ i) × (led s ≡ true) × (0 < length s) × (length s ≤ 6)
+shared-slice-read-if2 : tie.Need-shared-slice-read-if2
+shared-slice-read-if2 c = omega arith
 
-abbrev μ-loop : tie.MeasureT-loop
-μ-loop s v₀ i₀ v i = length s - i
+returns : tie.Need-returns
+returns c = bad-led (c .before .before .before .before .args .s .now) (c .before .before .if1 .taken) (c .if2 .taken)
 
-returns : tie.Need-returns Inv-loop μ-loop
-returns c = bad-empty (c .before .args .s .now) (c .if1 .taken)
+read-digits-requires : tie.Need-read-digits-requires
+read-digits-requires c κs = search needs
 
-returns-2 : tie.Need-returns-2 Inv-loop μ-loop
-returns-2 c = bad-long (c .before .before .args .s .now) (c .if2 .taken)
-
-shared-slice-read-if4 : tie.Need-shared-slice-read-if4 Inv-loop μ-loop
-shared-slice-read-if4 c = omega arith
-
-returns-3 : tie.Need-returns-3 Inv-loop μ-loop
-returns-3 c = bad-led (c .before .before .before .before .before .args .s .now) (omega arith) (omega arith) (c .before .before .if3 .taken) (c .if4 .taken)
-
-loop-holds : tie.Need-loop-holds Inv-loop μ-loop
-loop-holds c =
+returns-2 : tie.Need-returns-2
+returns-2 c =
     let s = c .before .before .before .args .s .now in
-    let l : led s ≡ true =
-    ⊎-elim (λ w. led-more s (w .0 .taken) (w .2 .left)) (λ w. led-one s (w .left)) (c .if3 .came) in
-    (omega arith, refl, refl, omega arith, l, omega arith, omega arith)
-
-shared-slice-read-if5 : tie.Need-shared-slice-read-if5 Inv-loop μ-loop
-shared-slice-read-if5 c = omega arith
-
-mul-v : tie.Need-mul-v Inv-loop μ-loop
-mul-v c =
-    let l = c .before .before .before .before .loop in
-    let s = c .before .before .before .before .before .before .before .before .args .s .now in
-    omega (arith, ten-most (l .i) (omega arith))
-
-shared-slice-read-v : tie.Need-shared-slice-read-v Inv-loop μ-loop
-shared-slice-read-v c = omega arith
-
-cast-v : tie.Need-cast-v Inv-loop μ-loop
-cast-v c =
-    let l = c .before .before .before .before .before .loop in
-    let s = c .before .before .before .before .before .before .before .before .before .args .s .now in
-    omega (arith, c .shared-slice-known3 .given (l .i))
-
-sub-v : tie.Need-sub-v Inv-loop μ-loop
-sub-v c =
-    let l = c .before .before .before .before .before .loop in
-    let s = c .before .before .before .before .before .before .before .before .before .args .s .now in
-    omega arith
-
-add-v : tie.Need-add-v Inv-loop μ-loop
-add-v c =
-    let l = c .before .before .before .before .before .loop in
-    let s = c .before .before .before .before .before .before .before .before .before .args .s .now in
-    omega (arith, ten-most (l .i) (omega arith), c .shared-slice-known3 .given (l .i))
-
-returns-4 : tie.Need-returns-4 Inv-loop μ-loop
-returns-4 c =
-    let l = c .before .before .before .loop in
-    let s = c .before .before .before .before .before .before .before .args .s .now in
-    bad-digits s (l .inv .5) (l .inv .6) (l .inv .4) (l .inv .1 ∙ digits-low s (l .i) (c .before .before .loop-test .taken) (c .if5 .taken))
-
-returns-5 : tie.Need-returns-5 Inv-loop μ-loop
-returns-5 c =
-    let l = c .before .before .before .before .loop in
-    let s = c .before .before .before .before .before .before .before .before .args .s .now in
-    bad-digits s (l .inv .5) (l .inv .6) (l .inv .4) (l .inv .1 ∙ digits-high s (l .i) (c .before .before .before .loop-test .taken) (c .if6 .left))
-
-add-i : tie.Need-add-i Inv-loop μ-loop
-add-i c = omega arith
-
-loop-less : tie.Need-loop-less Inv-loop μ-loop
-loop-less c = omega arith
-
-loop-again : tie.Need-loop-again Inv-loop μ-loop
-loop-again c =
-    let l = c .before .before .before .before .before .loop in
-    let s = c .before .before .before .before .before .before .before .before .before .args .s .now in
-    let h = c .before .before .before .before .loop-test .taken in (
-      omega arith,
-      l .inv .1 ∙ digits-step s (l .i) h (c .before .before .if5 .left) (c .before .if6 .taken),
-      l .inv .2 ∙ value-step s (l .i) h (l .v),
-      omega (arith, ten-more (l .i)),
-      l .inv .4,
-      l .inv .5,
-      l .inv .6,
-    )
-
-returns-6 : tie.Need-returns-6 Inv-loop μ-loop
-returns-6 c =
-    let l = c .before .loop in
-    let s = c .before .before .before .before .before .args .s .now in
-    ap Is (sym (l .inv .2 ∙ value-end s (l .i) (l .v) (c .loop-test .left)))
-    ∙ good s (l .inv .5) (l .inv .6) (l .inv .4) (l .inv .1 ∙ digits-end s (l .i) (c .loop-test .left))
+    c .read-digits .ensures ∙ ⊎-elim (λ w. led-more s (w .0 .taken) (w .2 .left)) (λ w. led-one s (w .left)) (c .before .if1 .came)
 
 pub read-number-spec : {M : Type 1} → statement M
-read-number-spec =
-    tie.close
-    (tie.spec
-    Inv-loop
-    μ-loop
-    returns
-    returns-2
-    shared-slice-read-if4
-    returns-3
-    loop-holds
-    shared-slice-read-if5
-    mul-v
-    shared-slice-read-v
-    cast-v
-    sub-v
-    add-v
-    returns-4
-    returns-5
-    add-i
-    loop-less
-    loop-again
-    returns-6)
+read-number-spec = tie.close (tie.spec shared-slice-read-if2 returns read-digits-requires returns-2)
