@@ -22,7 +22,7 @@ pub fn either(a: bool, b: bool) -> bool
 }
 
 // The number where the test holds, or what the tests after it say.
-fn given(bad: bool, number: u8, rest: u8) -> u8
+pub fn given(bad: bool, number: u8, rest: u8) -> u8
     ensures { λ r. ⌜ r ≡ cond bad number rest ⌝ }
 {
     if bad { number } else { rest }
@@ -67,7 +67,7 @@ pub fn wrong_settings(k: Settings) -> bool
     either(third, outside(1, 1000, k.share))
 }
 
-fn wrong_frame(z: Size, n: usize) -> bool
+pub fn wrong_frame(z: Size, n: usize) -> bool
     requires { ⌜ GoodSize (described z) ⌝ }
     ensures { λ r. ⌜ r ≡ badFrame z n ⌝ }
 {
