@@ -1,11 +1,12 @@
-/* Haze: the light of a hazy frame, the frame cleared of its haze, a part of it replaced, haze added, and what a band of rows lets through.
+/* Haze: the light of a hazy frame, the frame cleared of its haze, a part of it replaced, haze added, what a band of rows lets through, and frames read from
+ * PPM files and written to them.
  *
  * A frame is w columns by h rows, row after row from the top, each pixel red, green and blue, one byte each: 3*w*h bytes.
  * A map has one entry a pixel, in ten-thousandths: 10000 is transmission 1.
  * The work area is lent by the caller: HAZE_WORK(w, h) entries or more. Nothing is allocated and nothing is kept between two calls.
  *
- * Every function is proved to end, on every input, with the answer and the buffers that are said here. It returns 0, or the lowest number
- * of the table below that applies. When it returns a number other than 0, all that it was lent holds what it held: buffers, work area and
+ * Every function is proved to end, on every input, with the answer and the buffers that are said here. It returns 0, or the first number
+ * of those that it checks, in their order, that applies; haze_ppm_length alone returns a length. When it returns a number other than 0, all that it was lent holds what it held: buffers, work area and
  * the places for results.
  * After a call that returns 0 the first HAZE_WORK(w, h) entries of the work area are 0, and the rest is untouched. What it held before means nothing.
  *
@@ -37,7 +38,10 @@ enum haze_answer {
     HAZE_BAD_LIGHT = 5,    /* a channel of the light is 0 */
     HAZE_BAD_PLACE = 6,    /* the rectangle or the band is empty or reaches outside the frame */
     HAZE_BAD_PIXELS = 7,   /* the new pixels are not 3*width*height bytes */
-    HAZE_BAD_ENTRY = 8     /* an entry of a map that is read is above 10000, anywhere in it */
+    HAZE_BAD_ENTRY = 8,    /* an entry of a map that is read is above 10000, anywhere in it */
+    HAZE_BAD_HEADER = 11,  /* the file has no good header (9 and 10 are numbers of a program's text) */
+    HAZE_BAD_MAXIMUM = 12, /* the maximum is not 255 */
+    HAZE_BAD_LENGTH = 13   /* the pixels are short or bytes are left over, a second picture among them */
 };
 
 /* The settings, in the order of the parameters; all six are judged, used or not:
@@ -73,6 +77,26 @@ uint8_t haze_add(uint64_t w, uint64_t h, uint8_t red, uint8_t green, uint8_t blu
 /* Band figure: of the rows from..to of a map, the last left out, the mean transmission goes to *mean and the least to *least. Each is one division of two
  * whole numbers in doubles, so it is fixed to the bit. Checks 1, 4, 6, 8. */
 uint8_t haze_band(uint64_t w, uint64_t h, const uint16_t *map, size_t map_len, uint64_t from, uint64_t to, double *mean, double *least);
+
+/* Files. A PPM file is P6, then width, height and maximum, then one white byte and the pixels. White is blank, tab, CR and LF. Before each number stands a
+ * gap of one or more white bytes; a # anywhere in a gap, its start too, opens a comment up to the next CR or LF. A number has 1 to 6 digits; zeros may lead. */
+
+/* PPM size: width and height of the picture in a file go to *w and *h, so that a frame of the right length can be lent. Checks 11, 1, 12, 13. */
+uint8_t haze_ppm_size(const uint8_t *file, size_t file_len, uint64_t *w, uint64_t *h);
+
+/* PPM read: the pixels of a file go into the frame, 3*w*h bytes, width and height to *w and *h. Checks 11, 1, 12, 13, then 4 for the frame's length. */
+uint8_t haze_ppm_read(const uint8_t *file, size_t file_len, uint8_t *frame, size_t frame_len, uint64_t *w, uint64_t *h);
+
+/* PPM length: how many bytes haze_ppm_write writes for a frame, 9 + the digits of w and h + 3*w*h; 0 for a size that is refused. */
+uint64_t haze_ppm_length(uint64_t w, uint64_t h);
+
+/* PPM write: P6, LF, w, blank, h, LF, 255, LF and the pixels go into the file. haze_ppm_read gives the same frame back. Checks 1, 3, then 4 for a file that
+ * is not of the exact length. */
+uint8_t haze_ppm_write(uint64_t w, uint64_t h, const uint8_t *frame, size_t frame_len, uint8_t *file, size_t file_len);
+
+/* Netpbm header: the same header with any byte as its kind behind the P, '6' for PPM, '5' for PGM. Its three numbers, judged by their layout alone, go to *w,
+ * *h and *maximum, and the place of the first byte behind it to *start, which is at most file_len. Checks 11. */
+uint8_t haze_pnm_header(const uint8_t *file, size_t file_len, uint8_t kind, uint64_t *w, uint64_t *h, uint64_t *maximum, uint64_t *start);
 
 #ifdef __cplusplus
 }

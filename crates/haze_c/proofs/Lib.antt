@@ -1,3 +1,4 @@
 -- The laws of the C boundary.
 pub mod Unique
 pub mod Told
+pub mod ToldFiles

@@ -21,7 +21,7 @@ use Rattle.haze_c.specs.Returns.{Returns, LightPlaces, LightReturns, Cle
 
 -- ---- an answer with no value: n is its number
 
-answered-returns :
+pub answered-returns :
     {A : Type 0} (refusal : ℕ) (new old m : A) {r : Answer} {n : ℕ}
     → r ≡ answered refusal
     → m ≡ unless refusal new old

@@ -1,2 +1,3 @@
 -- The definitions that the contracts of the C boundary cite.
 pub mod Returns
+pub mod Netpbm

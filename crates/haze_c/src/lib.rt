@@ -1,5 +1,7 @@
-// The library for C: five exported functions, each one public call with its numbers in place of structs. Each returns 0 or the refusal number, and on
-// a refusal nothing that it was lent changes, result places included.
+// The library for C: exported functions, each one public call with its numbers in place of structs; those for files are in `netpbm`. Each returns 0 or the
+// refusal number, and on a refusal nothing that it was lent changes, result places included.
+mod netpbm;
+
 ghost use mathlib.Core.Path.{_≡_};
 ghost use Rattle.rules.specs.Promise.{said};
 ghost use Rattle.haze_c.specs.Returns.{size, settings, rgb, rect, LightReturns, ClearReturns, ReplaceReturns, AddReturns, BandReturns};

@@ -1,0 +1,20 @@
+-- `haze_c::netpbm::haze_ppm_write` meets its contract. The call's answer is returned as its number. Assumes nothing.
+use borrow.Author.Needs.{needs}
+use Rattle.haze_c.proofs.netpbm.haze_ppm_write.Statement.{statement}
+use Rattle.haze_c.proofs.netpbm.haze_ppm_write.Tie as tie
+use Rattle.haze_c.proofs.ToldFiles.{write-returns}
+
+write-requires : tie.Need-write-requires
+write-requires c κs = search needs
+
+number-requires : tie.Need-number-requires
+number-requires c κs = search needs
+
+same-length : tie.Need-same-length
+same-length c = search needs
+
+returns : tie.Need-returns
+returns c = write-returns (c .before .before .before .write .ensures) (c .number .ensures)
+
+pub haze-ppm-write-spec : {M : Type 1} → statement M
+haze-ppm-write-spec = tie.close (tie.spec write-requires number-requires same-length returns)
