@@ -4,7 +4,7 @@ This file holds the figures of document 01 (P1 to P11, the whole example of
 the text, the figures that are run only), the order of refusals of each call,
 the edges of each range, and comparisons on seeded random frames: the fast path
 with the plain path, Replace with a fresh Clear, the text with a second reader
-made of patterns.
+made of patterns.  The checks of PPM files stand in ppmtest.py.
 
 It prints one line for each group.  Where a check fails it prints what failed
 and ends with status 1.
@@ -26,6 +26,7 @@ sys.dont_write_bytecode = True
 HERE = os.path.dirname(os.path.abspath(__file__))
 sys.path.insert(0, HERE)
 
+import ppmtest
 import rules
 import text
 
@@ -834,7 +835,7 @@ GROUPS = (
     ("text, refusals by hand", group_text_refusals),
     ("text, random edits", group_text_random),
     ("text, largest frame", group_text_largest),
-)
+) + ppmtest.GROUPS
 
 
 def run_group(name, group):
