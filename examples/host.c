@@ -1,4 +1,5 @@
-/* A row of two pixels, cleared: the light is found, the frame cleared under it, one pixel replaced, and the map's figure read off. */
+/* A row of two pixels, cleared: the light is found, the frame cleared under it, one pixel replaced, the map's figure read off, and the picture written as a
+ * PPM file and read back. */
 #include <stdio.h>
 #include "haze.h"
 
@@ -13,6 +14,8 @@ int main(void)
     uint16_t map[W * H] = {0};
     int64_t work[HAZE_WORK(W, H)] = {0};
     double mean = 0, least = 0;
+    uint8_t file[sizeof "P6\n2 1\n255\n" - 1 + sizeof picture];
+    uint64_t w = 0, h = 0;
 
     answer = haze_light(W, H, 0, 1, 9500, 59, 1000, 1, frame, sizeof frame, work, HAZE_WORK(W, H), &red, &green, &blue);
     printf("light %d: %d %d %d\n", answer, red, green, blue);
@@ -27,6 +30,18 @@ int main(void)
 
     answer = haze_band(W, H, map, W * H, 0, 1, &mean, &least);
     printf("band %d: mean %.4f least %.4f\n", answer, mean, least);
+
+    answer = haze_ppm_write(W, H, picture, sizeof picture, file, haze_ppm_length(W, H));
+    printf("write %d: %d bytes\n", answer, (int)haze_ppm_length(W, H));
+
+    answer = haze_ppm_size(file, sizeof file, &w, &h);
+    printf("size %d: %d by %d\n", answer, (int)w, (int)h);
+
+    answer = haze_ppm_read(file, sizeof file, picture, sizeof picture, &w, &h);
+    printf("read %d: second pixel %d %d %d\n", answer, picture[3], picture[4], picture[5]);
+
+    answer = haze_ppm_read(file, sizeof file - 1, picture, sizeof picture, &w, &h);
+    printf("a file that is short is refused %d\n", answer);
 
     answer = haze_add(W, H, red, green, blue, picture, sizeof picture, map, W * H, frame, sizeof frame);
     printf("add %d: %d %d %d\n", answer, frame[3], frame[4], frame[5]);

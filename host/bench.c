@@ -51,6 +51,18 @@ static int own_add(void) { return peer_add(W32, peer_picture, FRAME, peer_a, pee
 static int lib_band(void) { return haze_band(w, h, map, w * h, 0, h, &mean, &least); }
 static int own_band(void) { return peer_band(W32, peer_map, w * h, 0, (uint32_t)h, &peer_mean, &peer_least); }
 
+/* A PPM file of the frame, written and read; beside them the pixels copied, since no peer has files. */
+static uint8_t file[3 * MOST + sizeof "P6\n1024 1024\n255\n"], loaded[3 * MOST], copied[3 * MOST];
+static uint64_t loaded_w, loaded_h;
+
+static int lib_write(void) { return haze_ppm_write(w, h, frame, FRAME, file, haze_ppm_length(w, h)); }
+static int lib_read(void) { return haze_ppm_read(file, haze_ppm_length(w, h), loaded, FRAME, &loaded_w, &loaded_h); }
+static int copy(void)
+{
+    memcpy(copied, peer_frame, FRAME);
+    return 0;
+}
+
 /* ---- one figure */
 
 static void stop(const char *why)
@@ -113,6 +125,8 @@ int main(void)
     line("band", lib_band, own_band);
     column = row = 240;
     line("replace 32x32, middle", lib_replace, own_replace);
+    line("PPM written", lib_write, copy);
+    line("PPM read", lib_read, copy);
     return 0;
 }
 
@@ -186,6 +200,15 @@ static void calls(void)
            middle / clear, lib_best);
 }
 
+static void files(void)
+{
+    title("512x512, beside memcpy");
+    prepare(512, 7, 30);
+    line("PPM written", lib_write, copy);
+    line("PPM read", lib_read, copy);
+    if (loaded_w != w || loaded_h != h || memcmp(loaded, copied, FRAME)) stop("the frame that was read is another");
+}
+
 static void at(const char *name, uint64_t v, uint64_t side, uint64_t s, uint64_t r, int (*lib)(void), int (*own)(void))
 {
     char text[32];
@@ -213,6 +236,7 @@ int main(int count, char **words)
     for (i = 0; i < 4; i++) at("s ", darks[i], 512, darks[i], 30, lib_clear, own_clear);
     title("light, 512x512");
     for (i = 0; i < 4; i++) at("s ", darks[i], 512, darks[i], 30, lib_light, own_light);
+    files();
     printf("\nbest of %llu runs, turn about\n", (unsigned long long)rounds);
     return 0;
 }

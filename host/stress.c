@@ -6,20 +6,11 @@
 #include "haze.h"
 #include "peer.h"
 #include "frames.h"
+#include "loans.h"
 
 /* ---- lent memory: what stands there is a function of a seed, so that "as it was" needs no copy */
 
-#define GUARD 64
 #define WORK_MOST (8 * (MAX_PIXELS + 1024 + 256 + 1) + 16)
-#define ROOM(bytes) ((bytes) + 2 * GUARD)
-
-typedef struct {
-    const char *name;
-    uint8_t *room;     /* where the guard before it begins */
-    size_t bytes, unit;
-    uint64_t seed;
-    int guarded;
-} loan;
 
 static _Alignas(64) uint8_t frame_room[ROOM(3 * MAX_PIXELS + 8)], map_room[ROOM(2 * MAX_PIXELS + 8)], picture_room[ROOM(3 * MAX_PIXELS + 8)],
     pixels_room[ROOM(3 * MAX_PIXELS + 8)], work_room[ROOM(8 * WORK_MOST)], light_room[ROOM(3)], mean_room[ROOM(8)], least_room[ROOM(8)];
@@ -30,9 +21,6 @@ static loan frame_loan = {"frame", frame_room, 0, 1, 0, 0}, map_loan = {"map", m
 
 static loan *const loans[] = {&frame_loan, &map_loan, &picture_loan, &pixels_loan, &work_loan, &light_loan, &mean_loan, &least_loan};
 #define LOANS (sizeof loans / sizeof *loans)
-
-static void *lent(const loan *l) { return l->room + GUARD; }
-static size_t entries(const loan *l) { return l->bytes / l->unit; }
 
 static void fill(uint8_t *at, size_t n, uint64_t seed)
 {
@@ -59,12 +47,9 @@ static size_t differs(const uint8_t *at, size_t start, size_t n, uint64_t seed)
 /* n entries, with anything in them, between fresh guards. */
 static void *lend(loan *l, size_t n)
 {
-    l->bytes = n * l->unit;
+    guard(l, n);
     l->seed = draw();
-    l->guarded = 1;
-    memset(l->room, 0xa5, GUARD);
     fill(lent(l), l->bytes, l->seed);
-    memset(l->room + GUARD + l->bytes, 0xa5, GUARD);
     return lent(l);
 }
 
@@ -111,14 +96,11 @@ static void as_it_was(const loan *l, size_t start)
 
 static void guards(void)
 {
-    size_t k, i;
-    for (k = 0; k < LOANS; k++)
-        for (i = 0; i < GUARD; i++) {
-            const loan *l = loans[k];
-            if (!l->guarded) continue;
-            if (l->room[i] != 0xa5) differ("a guard before a buffer", k, l->room[i], 0xa5);
-            if (l->room[GUARD + l->bytes + i] != 0xa5) differ("a guard after a buffer", k, l->room[GUARD + l->bytes + i], 0xa5);
-        }
+    size_t k;
+    for (k = 0; k < LOANS; k++) {
+        const uint8_t *byte = broken(loans[k]);
+        if (byte) differ(byte < (uint8_t *)lent(loans[k]) ? "a guard before a buffer" : "a guard after a buffer", k, *byte, GUARD_BYTE);
+    }
 }
 
 /* After an accepted call: 0 to HAZE_WORK(w, h), the rest as it was. */

@@ -6,4 +6,7 @@ void *memcpy(void *restrict to, const void *restrict from, size_t n);
 void *memset(void *at, int byte, size_t n);
 int memcmp(const void *a, const void *b, size_t n);
 int strcmp(const char *a, const char *b);
+int strncmp(const char *a, const char *b, size_t n);
+size_t strlen(const char *text);
+char *strerror(int number);
 #endif
