@@ -11,7 +11,7 @@ use Rattle.pnm.specs.declared.Head.{Head}
 use Rattle.pnm.specs.declared.Head.the-variants as head
 use Rattle.ppm.specs.declared.Taken.{Taken}
 use Rattle.ppm.specs.declared.Taken.the-variants as taken
-use Rattle.pnm.specs.Header.{number, second, third, last, good, headerOf}
+use Rattle.pnm.specs.Header.{good, headerOf}
 use Rattle.ppm.specs.Promise.{frameOr, Sizes, Reads, Writes}
 use Rattle.haze_c.specs.Returns.{Returns}
 use Rattle.haze_c.specs.Netpbm.{SizeReturns, ReadPlaces, ReadReturns, WriteReturns, Heading, heading, HeaderReturns}

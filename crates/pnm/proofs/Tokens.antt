@@ -1,5 +1,5 @@
 -- Steps of the reader of a header: what its calls answer, and which answer that comes to. Assumes nothing.
-use mathlib.Core.Path.{_≡_, refl, sym, ap, _∙_}
+use mathlib.Core.Path.{_≡_, refl, ap}
 use mathlib.Core.Bool.{Bool, true, false, cond, not, _&&_, _||_}
 use mathlib.Core.List.{List, [], _∷_}
 use Prim.Native.Nat.{ℕ, suc, _+_, _-_, _≤_, _<_}
@@ -14,7 +14,7 @@ use Rattle.fields.specs.Decimal.{digit, figured, digitsOf, valueFrom}
 use Rattle.pnm.proofs.Scan.{is, is-not}
 use Rattle.pnm.specs.declared.Token.the-variants as token
 use Rattle.pnm.specs.declared.Head.the-variants as head
-use Rattle.pnm.specs.Header.{ends, white, opens, gapIn, run, from, figures, past, number, token, tokenAt, second, third, last, magic, closed, good, headerOf}
+use Rattle.pnm.specs.Header.{ends, white, opens, gapIn, run, from, figures, past, number, token, tokenAt, magic, closed, good, headerOf}
 
 -- ---- a count is of bytes that are there
 

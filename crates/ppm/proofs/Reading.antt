@@ -1,8 +1,8 @@
 -- What reader and writer know of a file, the reader by its header's answer, and which answer that comes to. Assumes nothing.
-use mathlib.Core.Path.{_≡_, refl, sym, ap, ap₂, _∙_}
+use mathlib.Core.Path.{_≡_, refl, sym, ap, _∙_}
 use mathlib.Core.Bool.{Bool, true, false, cond, _&&_}
 use mathlib.Core.List.{List}
-use Prim.Native.Nat.{ℕ, zero, suc, _+_, _-_, _*_, _≤_, _<_}
+use Prim.Native.Nat.{ℕ, zero, suc, _-_, _*_, _≤_, _<_}
 use native.Mathlib.Omega.{arith}
 use lib.Dec.{ltb}
 use lib.ListN.{length, take, drop, length-drop}
@@ -14,12 +14,12 @@ use Rattle.rules.proofs.Good.{same-of, frame-good}
 use Rattle.fields.proofs.Lines.{both}
 use Rattle.pnm.specs.declared.Head.the-variants as head
 use Rattle.ppm.specs.declared.Taken.the-variants as taken
-use Rattle.pnm.specs.Header.{white, number, token, second, third, last, magic, closed, good, headerOf}
+use Rattle.pnm.specs.Header.{number, token, second, third, last, magic, closed, good, headerOf}
 use Rattle.ppm.specs.Promise.{size, pixels, testsBody, testsLent, refuseSize, refuseRead, refuseWrite, frameOr}
 use Rattle.ppm.specs.File.{long}
 use Rattle.ppm.proofs.Exactly.{read-exact, write-exact}
 use Rattle.pnm.proofs.Headers.{Says}
-use Rattle.ppm.proofs.Said.{size-said, pixels-said, size-refused, read-refused}
+use Rattle.ppm.proofs.Said.{pixels-said, size-refused, read-refused}
 
 -- ---- a good header
 

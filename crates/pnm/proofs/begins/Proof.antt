@@ -1,5 +1,4 @@
 -- `pnm::begins` meets its contract. Assumes nothing.
-use native.Mathlib.Omega.{arith}
 use borrow.Author.Needs.{needs}
 use Rattle.pnm.proofs.Bytes.{magic-short, magic-other, magic-kind}
 use Rattle.pnm.proofs.begins.Statement.{statement}

@@ -1,5 +1,5 @@
 -- `ppm::size` keeps its promise: the number of the refusal, or the size that the header says. Assumes nothing.
-use mathlib.Core.Path.{_≡_, refl, sym, _∙_}
+use mathlib.Core.Path.{sym, _∙_}
 use native.Mathlib.Omega.{arith}
 use borrow.Author.Needs.{needs}
 use Rattle.ppm.proofs.Reading.{Opened, opened, bad-size, size-number, frame-refused, frame-taken}
