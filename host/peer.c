@@ -273,12 +273,13 @@ static void cols2_row(cols2 *c, const int32_t *restrict a, const int32_t *restri
     else     for (i = 0; i < n; i++) { c->a[i] -= a[i]; c->b[i] -= b[i]; }
 }
 
-/* The recovery of one row with one division a pixel, exact in single precision: with N = |I-A|*10000,
- * at most 2,540,000, N + 1/2 is a float, and (N + 1/2)/T lies at least 1/(2T) from any whole number,
- * while two roundings move it by less than N/T * 2^-23, below 0.31/T. */
-static inline uint8_t recovered(int I, int A, float inv)
+/* The recovery of one row with one division a pixel, exact in single precision: the quotient N/T to the
+ * nearest, halves away from zero, is floor((N + floor(T/2)) / T), with N = |I-A|*10000, at most 2,540,000.
+ * M = N + floor(T/2) is below 2^22, so M + 1/2 is a float, and (M + 1/2)/T lies at least 1/(2T) from any
+ * whole number, while two roundings move it by less than (M + 1/2)/T * 2^-23 * (1 + 2^-24), below 0.31/T. */
+static inline uint8_t recovered(int I, int A, float inv, float half)
 {
-    int d = I - A, m = d < 0 ? -d : d, q = (int)(((float)(m * 10000) + 0.5f) * inv);
+    int d = I - A, m = d < 0 ? -d : d, q = (int)(((float)(m * 10000) + half) * inv);
     int v = d < 0 ? A - q : A + q;
     v = v < 0 ? 0 : v;
     return (uint8_t)(v > 255 ? 255 : v);
@@ -287,13 +288,17 @@ static inline uint8_t recovered(int I, int A, float inv)
 static void recover_row(const uint8_t *restrict in, uint8_t *restrict out, const uint16_t *restrict map,
                         int n, const uint8_t light[3], int t0)
 {
-    float inv[MAXSIDE];
+    float inv[MAXSIDE], half[MAXSIDE];
     int i, A0 = light[0], A1 = light[1], A2 = light[2];
-    for (i = 0; i < n; i++) inv[i] = 1.0f / (float)(map[i] > t0 ? map[i] : t0);
     for (i = 0; i < n; i++) {
-        out[3 * i] = recovered(in[3 * i], A0, inv[i]);
-        out[3 * i + 1] = recovered(in[3 * i + 1], A1, inv[i]);
-        out[3 * i + 2] = recovered(in[3 * i + 2], A2, inv[i]);
+        int T = map[i] > t0 ? map[i] : t0;
+        inv[i] = 1.0f / (float)T;
+        half[i] = (float)(T / 2) + 0.5f;
+    }
+    for (i = 0; i < n; i++) {
+        out[3 * i] = recovered(in[3 * i], A0, inv[i], half[i]);
+        out[3 * i + 1] = recovered(in[3 * i + 1], A1, inv[i], half[i]);
+        out[3 * i + 2] = recovered(in[3 * i + 2], A2, inv[i], half[i]);
     }
 }
 

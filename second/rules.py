@@ -2,7 +2,8 @@
 
 This file holds the five operations Light, Clear, Replace, Haze and Band
 figure, with their refusals.  It follows document 01 heading by heading, with
-the paper's words as names and its step numbers in the comments.
+the paper's words as names and its step numbers in the comments.  The recovery
+rounds as request Two of document 02 says.
 
 What every operation returns is a pair (number, values):
     accepted   (0, values)
@@ -35,7 +36,7 @@ on exact fractions.  It is slow and shares no function with the first path.
 """
 
 from fractions import Fraction
-from math import floor, trunc
+from math import ceil, floor
 
 
 # ---------------------------------------------------------------------------
@@ -313,16 +314,18 @@ def map_by_rules(size, settings, light, frame):
 # From transmission to picture, and back
 # ---------------------------------------------------------------------------
 
-def cut_toward_zero(top, bottom):
-    """The quotient of two whole numbers, bottom above 0, cut toward zero."""
-    if top < 0:
-        return -(-top // bottom)
-    return top // bottom
+def nearest_away(top, bottom):
+    """The whole number nearest to top/bottom, bottom above 0, halves away from zero."""
+    whole, rest = divmod(abs(top), bottom)
+    if 2 * rest >= bottom:
+        whole += 1
+    return -whole if top < 0 else whole
 
 
 def cleared_channel(I, A, T):
     """One channel of the cleared frame."""
-    return held(A + cut_toward_zero((I - A) * 10000, T), 0, 255)
+    # Request Two.  The quotient is rounded, then A is added, then the sum is held.
+    return held(A + nearest_away((I - A) * 10000, T), 0, 255)
 
 
 def picture_by_rules(light, t0, frame, map):
@@ -448,7 +451,7 @@ def band(size, map, start, end):
 
 # ---------------------------------------------------------------------------
 # The plain path: the same rules, pixel by pixel, on exact fractions.
-# It is for small frames.  floor and trunc of a Fraction are exact.
+# It is for small frames.  floor and ceil of a Fraction are exact.
 # ---------------------------------------------------------------------------
 
 def plain_window(size, position, q):
@@ -518,6 +521,16 @@ def plain_slopes_and_offsets(size, settings, light, frame):
     return guide, slopes, offsets
 
 
+def plain_nearest(x):
+    """Of floor and ceil the nearer one; of two equally near ones the one farther from zero."""
+    below, above = floor(x), ceil(x)
+    if x - below < above - x:
+        return below
+    if above - x < x - below:
+        return above
+    return max(below, above, key=abs)
+
+
 def plain_clear(size, settings, light, frame):
     """Step 6, and Clear of "From transmission to picture, and back"."""
     W, H = size
@@ -540,7 +553,7 @@ def plain_clear(size, settings, light, frame):
         T = t if t > t0 else t0
         for c in (0, 1, 2):
             I, A = frame[3 * p + c], light[c]
-            value = A + trunc(Fraction((I - A) * 10000, T))
+            value = A + plain_nearest(Fraction((I - A) * 10000, T))
             if value < 0:
                 value = 0
             if value > 255:

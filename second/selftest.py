@@ -1,10 +1,12 @@
 """The self-test of the second program.  Run it as: python3 -I selftest.py
 
 This file holds the figures of document 01 (P1 to P11, the whole example of
-the text, the figures that are run only), the order of refusals of each call,
-the edges of each range, and comparisons on seeded random frames: the fast path
-with the plain path, Replace with a fresh Clear, the text with a second reader
-made of patterns.  The checks of PPM files stand in ppmtest.py.
+the text, the figures that are run only), P3 with the green that request Two of
+document 02 gives it, that request's rounding and its bound, the order of
+refusals of each call, the edges of each range, and comparisons on seeded random
+frames: the fast path with the plain path, Replace with a fresh Clear, the text
+with a second reader made of patterns.  The checks of PPM files stand in
+ppmtest.py.
 
 It prints one line for each group.  Where a check fails it prints what failed
 and ends with status 1.
@@ -157,8 +159,11 @@ def group_p1_to_p4(same):
     same("P3 slopes and offsets, plain",
          rules.plain_slopes_and_offsets((2, 1), P3_SETTINGS, grey, P2_FRAME),
          ([600, 430], [-28381, -28381], [17560215, 17560215]))
+    # Green: -50 * 10000 / 5230 is -95.6, so -96.
     same("P3 clear", clear_of((2, 1), P3_SETTINGS, grey, P2_FRAME),
-         (0, ([519, 5230], [200, 200, 200, 9, 105, 162])))
+         (0, ([519, 5230], [200, 200, 200, 9, 104, 162])))
+    same("P3 clear, plain", rules.plain_clear((2, 1), P3_SETTINGS, grey, P2_FRAME),
+         ([519, 5230], [200, 200, 200, 9, 104, 162]))
     same("P4 light", light_of((1, 1), P2_SETTINGS, [0, 0, 0]), (0, (1, 1, 1)))
     same("P4 clear", clear_of((1, 1), P2_SETTINGS, (1, 1, 1), [0, 0, 0]),
          (0, ([10000], [0, 0, 0])))
@@ -436,8 +441,6 @@ def group_errors_of_others(same):
         same("no padding, s %d r %d" % (s, r), clear_of((3, 3), settings, light, frame),
              (0, ([500] * 9, frame)))
         same("no padding in the light, s %d" % s, light_of((3, 3), settings, frame), (0, light))
-    same("cut toward zero", [rules.cut_toward_zero(top, 3) for top in (-7, -6, -1, 0, 1, 7)],
-         [-2, -2, 0, 0, 0, 2])
     same("slope floored", rules.slope(1, 0, 0, 0, 0, 59), 0)
     # n 2, guides 0 and 1, coarse 1 and 0: P is -1, Q is 1 + 4E.
     same("slope floored below 0", rules.slope(2, 1, 1, 1, 0, 59), -5)
@@ -445,6 +448,159 @@ def group_errors_of_others(same):
     same("offset floored", rules.offset(2, 1, 1, -5), 514)
     same("offset floored below 0", rules.offset(2, 1, 0, 5), -3)
     same("held", [rules.held(v, 0, 255) for v in (-1, 0, 255, 256)], [0, 0, 255, 255])
+
+
+# ---------------------------------------------------------------------------
+# Rounding in the recovery
+# ---------------------------------------------------------------------------
+
+# Top, bottom and the nearest whole number, by hand.  Below zero it is the negative.
+NEAREST = (
+    # Of 2 every odd number is a half.
+    (0, 2, 0), (1, 2, 1), (2, 2, 1), (3, 2, 2), (4, 2, 2), (5, 2, 3),
+    # Of 3 there are no halves: one third goes down, two thirds go up.
+    (1, 3, 0), (2, 3, 1), (3, 3, 1), (4, 3, 1), (5, 3, 2), (6, 3, 2), (7, 3, 2), (8, 3, 3),
+    # Of 4 the halves are 2, 6 and 10.
+    (1, 4, 0), (2, 4, 1), (3, 4, 1), (5, 4, 1), (6, 4, 2), (7, 4, 2),
+    (9, 4, 2), (10, 4, 3), (11, 4, 3),
+    # Of 10,000, each half with its neighbours.
+    (4999, 10000, 0), (5000, 10000, 1), (5001, 10000, 1),
+    (14999, 10000, 1), (15000, 10000, 2), (15001, 10000, 2),
+    (24999, 10000, 2), (25000, 10000, 3), (25001, 10000, 3),
+    # Half of 9999 is 4999.5.
+    (4999, 9999, 0), (5000, 9999, 1), (14998, 9999, 1), (14999, 9999, 2),
+    # The least and the greatest transmission under the greatest difference.
+    (2550000, 1, 2550000), (2550000, 10000, 255),
+)
+
+HALVES = [Fraction(top, 2) for top in (-5, -3, -1, 1, 3, 5)]
+
+# Other rules, and what each gives for the halves.
+OTHER_ROUNDINGS = (
+    ("cut toward zero", math.trunc, [-2, -1, 0, 0, 1, 2]),
+    ("halves up, below zero too", lambda x: math.floor(x + Fraction(1, 2)), [-2, -1, 0, 1, 2, 3]),
+    ("halves to even", round, [-2, -2, 0, 0, 2, 2]),
+    ("halves toward zero", lambda x: math.ceil(abs(x) - Fraction(1, 2)) * (1 if x > 0 else -1),
+     [-2, -1, 0, 0, 1, 2]),
+)
+
+# I, A, T and the cleared channel, by hand.
+ROUNDED_CHANNELS = (
+    # 2.5 and -2.5.  If A were added before the rounding, 97.5 would become 98.
+    (101, 100, 4000, 103), (99, 100, 4000, 97), (102, 100, 8000, 103), (98, 100, 8000, 97),
+    # Just below 2.5, and just above.
+    (101, 100, 4001, 102), (99, 100, 4001, 98), (101, 100, 3999, 103), (99, 100, 3999, 97),
+    # 1.25 and 3.75.
+    (101, 100, 8000, 101), (99, 100, 8000, 99), (103, 100, 8000, 104), (97, 100, 8000, 96),
+    # The last values that need no holding, and the first that do: 2.5 goes to 3.
+    (254, 252, 8000, 255), (255, 253, 8000, 255), (1, 3, 8000, 0), (0, 2, 8000, 0),
+)
+
+
+def is_nearest_away(whole, top, bottom):
+    """The rule by its meaning: at most a half away, and at a half farther from zero."""
+    off = 2 * abs(whole * bottom - top)
+    return off < bottom or (off == bottom and abs(whole) * bottom > abs(top))
+
+
+def group_rounding(same):
+    for top, bottom, want in NEAREST:
+        for sign in (1, -1):
+            same("nearest to %d/%d" % (sign * top, bottom),
+                 (rules.nearest_away(sign * top, bottom),
+                  rules.plain_nearest(Fraction(sign * top, bottom))), (sign * want,) * 2)
+    # Every quotient from -4 to 4 of small divisors, even and odd.
+    for bottom in range(1, 31):
+        tops = range(-4 * bottom, 4 * bottom + 1)
+        got = [rules.nearest_away(top, bottom) for top in tops]
+        same("nearest of %d by its meaning" % bottom,
+             all(is_nearest_away(whole, top, bottom) for whole, top in zip(got, tops)), True)
+        same("nearest of %d, plain" % bottom,
+             [rules.plain_nearest(Fraction(top, bottom)) for top in tops], got)
+    ours = [rules.nearest_away(x.numerator, x.denominator) for x in HALVES]
+    same("halves away from zero", ours, [-3, -2, -1, 1, 2, 3])
+    for name, other, want in OTHER_ROUNDINGS:
+        same(name, [other(x) for x in HALVES], want)
+        same("%s is another rule" % name, want != ours, True)
+    # Only the cut differs from ours where there is no half.
+    same("three quarters", [(rules.nearest_away(top, 4), *(other(Fraction(top, 4))
+                             for name, other, want in OTHER_ROUNDINGS)) for top in (3, -3)],
+         [(1, 0, 1, 1, 1), (-1, 0, -1, -1, -1)])
+    for I, A, T, want in ROUNDED_CHANNELS:
+        same("channel %d under %d at %d" % (I, A, T), rules.cleared_channel(I, A, T), want)
+
+
+# ---------------------------------------------------------------------------
+# The simulator's bound
+# ---------------------------------------------------------------------------
+#
+# A byte J is hazed with t under the light A, then cleared with T = t under A.
+# Haze gives A + k with k = floor(((J - A)*t + 5000)/10000), since 10000*A can be
+# taken out of the floor.  Clear gives A + q with q nearest to 10000*k/t, and then
+# holds it.  So before the holding the distance from J is that of q from J - A: it
+# depends on the difference J - A and on t alone.  J is a byte, so holding the sum
+# into 0..255 brings it nearer to J or leaves it.  The bound for all differences
+# and all t, without holding, is then the bound for all J, A and t.
+#
+# q has the sign of J - A or is 0, so a sum is held only on the side of A on which
+# J lies.  There the room is widest under light 1 for J above A and under light 255
+# for J below A, so these two show the greatest distance that real bytes have.
+
+DIFFERENCES = range(-255, 256)
+TRANSMISSIONS = range(1, 10001)
+
+
+def farthest(t):
+    """The greatest distance at t: before holding, and of real bytes with it."""
+    hazed = [rules.hazed_channel(difference, 0, t) for difference in DIFFERENCES]
+    steps = range(hazed[0], hazed[-1] + 1)
+    free = {k: rules.nearest_away(k * 10000, t) for k in steps}
+    held = {k: rules.held(q, -255, 254) for k, q in free.items()}
+    before = [free[k] - difference for k, difference in zip(hazed, DIFFERENCES)]
+    # The difference 255 would need light 0.
+    after = [held[k] - difference for k, difference in zip(hazed, DIFFERENCES[:-1])]
+    return max(max(before), -min(before)), max(max(after), -min(after))
+
+
+def round_trip(J, A, t):
+    """The byte that comes back, with everything the rules say."""
+    return rules.cleared_channel(rules.hazed_channel(J, A, t), A, t)
+
+
+def group_bound(same):
+    most_before, most_after = zip(*map(farthest, TRANSMISSIONS))
+    same("every transmission was met", len(most_before), 10000)
+    # D is whole, so t*(2*D - 1) is at most 10,000 exactly where D is at most this floor.
+    allowed = [(10000 + t) // (2 * t) for t in TRANSMISSIONS]
+    for name, most, greatest, met in (("before holding", most_before, 9983, 9908),
+                                      ("real bytes", most_after, 9980, 9904)):
+        sides = [t * (2 * D - 1) for t, D in zip(TRANSMISSIONS, most)]
+        same("bound, %s" % name, [t for t, side in zip(TRANSMISSIONS, sides) if side > 10000], [])
+        same("greatest t*(2*D - 1), %s" % name, max(sides), greatest)
+        same("for how many t the most that is allowed is met, %s" % name,
+             sum(D == limit for D, limit in zip(most, allowed)), met)
+    # 67 * (2*75 - 1) is 9983.  A sum 299 away from its light is always held, so no
+    # bytes show it.
+    same("9983", (rules.hazed_channel(224, 0, 67), rules.nearest_away(2 * 10000, 67)), (2, 299))
+    # 1996 * (2*3 - 1) is 9980.  50 * 10000 / 1996 is 250.501, so 251.
+    same("9980", (rules.hazed_channel(249, 1, 1996), round_trip(249, 1, 1996)), (51, 252))
+    # -124 * 10000 / 4980 is -248.995.  Cut it would give 7, and 4980 * (2*2 - 1) is too much.
+    same("where a cut breaks the bound",
+         (rules.hazed_channel(5, 255, 4980), round_trip(5, 255, 4980)), (131, 6))
+    chance = random.Random(20117)
+    nearer = 0
+    for turn in range(20000):
+        # Small transmissions bring large distances, and holding.
+        t = chance.randrange(1, 10001 if turn % 2 else 200)
+        J, A = chance.randrange(256), chance.randrange(1, 256)
+        D = abs(round_trip(J, A, t) - J)
+        step = rules.hazed_channel(J - A, 0, t)
+        before = abs(rules.nearest_away(step * 10000, t) - (J - A))
+        same("J %d, A %d, t %d" % (J, A, t),
+             (t * (2 * D - 1) <= 10000, D <= most_after[t - 1], D <= before,
+              rules.hazed_channel(J, A, t) == A + step), (True,) * 4)
+        nearer += D < before
+    same("holding brought some nearer and left some", 0 < nearer < 20000, True)
 
 
 # ---------------------------------------------------------------------------
@@ -462,6 +618,11 @@ def note_what_happened(seen, settings, light, frame, size, slopes, offsets, guid
     seen["ratio capped"] += any(10000 * I // A > 10000
                                 for pixel in rules.pixels(frame) for I, A in zip(pixel, light))
     seen["floor t0 used"] += any(entry < settings[4] for entry in map)
+    halves = [I > A for pixel, entry in zip(rules.pixels(frame), map) for I, A in zip(pixel, light)
+              if (I - A) * 20000 % max(entry, settings[4]) == 0
+              and (I - A) * 10000 % max(entry, settings[4]) != 0]
+    seen["half above the light"] += True in halves
+    seen["half below the light"] += False in halves
     seen["window cut off"] += settings[1] > 0
     seen["window inside the frame"] += size[0] > 2 * settings[1] > 0 and size[1] > 2 * settings[1]
 
@@ -470,6 +631,7 @@ def group_plain_and_fast(same):
     chance = random.Random(20110)
     seen = dict.fromkeys(("refined below 0", "refined above 10,000", "slope below 0",
                           "offset below 0", "ratio capped", "floor t0 used",
+                          "half above the light", "half below the light",
                           "window cut off", "window inside the frame"), 0)
     for turn in range(200):
         size = (chance.randrange(1, 8), chance.randrange(1, 8))
@@ -478,6 +640,9 @@ def group_plain_and_fast(same):
         if turn % 4 == 1:
             # These bring refined values outside the range.
             settings = (0, 1, 10000, 1) + settings[4:]
+        if turn % 4 == 3:
+            # 10000/8000 is 1.25, so a difference of 2 is a quotient of 2.5.
+            settings = settings[:4] + (8000,) + settings[5:]
         frame = random_frame(chance, count_of(size))
         what = "frame %d" % turn
         found = rules.plain_light(size, settings, frame)
@@ -645,7 +810,7 @@ EXAMPLE_OUT = tabbed("light 200 200 200\nout 500 200 200 200\nout 5250 10 105 16
 def group_text_example(same):
     same("whole example", text.clearframe(EXAMPLE), EXAMPLE_OUT)
     same("P3 as text", text.clearframe(EXAMPLE.replace(b"set\t0\t0", b"set\t0\t1")),
-         tabbed("light 200 200 200\nout 519 200 200 200\nout 5230 9 105 162\n"))
+         tabbed("light 200 200 200\nout 519 200 200 200\nout 5230 9 104 162\n"))
     same("P4 as text", text.clearframe(tabbed("size 1 1\nset 0 0 9500 59 1000 1\npx 0 0 0\n")),
          tabbed("light 1 1 1\nout 10000 0 0 0\n"))
     run = subprocess.run([sys.executable, "-I", os.path.join(HERE, "text.py")],
@@ -826,6 +991,8 @@ GROUPS = (
     ("ends of the ranges", group_range_ends),
     ("light by hand", group_light_by_hand),
     ("errors seen in other clearers", group_errors_of_others),
+    ("rounding in the recovery", group_rounding),
+    ("the simulator's bound", group_bound),
     ("plain path and fast path", group_plain_and_fast),
     ("runs of replacements and a fresh clear", group_replace_runs),
     ("reach of a replacement", group_replace_reach),

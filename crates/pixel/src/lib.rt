@@ -8,7 +8,7 @@ ghost use lib.Signed.{shrZ};
 ghost use Rattle.rules.specs.Good.{GoodLight};
 ghost use Rattle.rules.specs.Light.{darkest, guide};
 ghost use Rattle.rules.specs.Transmission.{ratio, leastRatio, coarseOf, slopeOf, offsetOf, refineOf, held};
-ghost use Rattle.rules.specs.Picture.{recover, haze};
+ghost use Rattle.rules.specs.Picture.{rounded, recover, haze};
 ghost use Rattle.rules.specs.Buffers.{pixelAt};
 ghost use Rattle.pixel.specs.Moments.{Moments};
 use rules::Rgb;
@@ -125,12 +125,20 @@ pub fn refined(n: u64, sa: i64, sb: i64, g: u64) -> u64
 
 // ---- from transmission to picture, and back
 
-// How far a byte that is d from the light is from it without the haze.
-fn stretched(d: u32, t: u32) -> u32
-    requires { ⌜ (d ≤ 255) × (0 < t) ⌝ }
-    ensures { λ r. ⌜ (r ≡ d * 10000 / t) × (r ≤ 2550000) ⌝ }
+// What gives the whole number nearest to n / t, halves up, when it is divided by 2·t.
+fn half_added(n: u32, t: u32) -> u32
+    requires { ⌜ (n ≤ 2550000) × (0 < t) × (t ≤ 10000) ⌝ }
+    ensures { λ r. ⌜ r ≡ 2 * n + t ⌝ }
 {
-    d * 10000 / t
+    2 * n + t
+}
+
+// How far a byte that is d from the light is from it without the haze, to the nearest level.
+fn stretched(d: u32, t: u32) -> u32
+    requires { ⌜ (d ≤ 255) × (0 < t) × (t ≤ 10000) ⌝ }
+    ensures { λ r. ⌜ r ≡ rounded (d * 10000) t ⌝ }
+{
+    half_added(d * 10000, t) / (2 * t)
 }
 
 // A byte without the haze: byte i under light a at transmission t.

@@ -110,19 +110,31 @@ module _ (a b : ℤ) (M N : ℕ) (ha : natAbs a ≤ M) (hb : natAbs b ≤ N) (h 
 pub pos-sub : (a b : ℕ) → b ≤ a → pos a -ℤ pos b ≡ pos (a - b)
 pos-sub a b h = dif-eq a b (a - b) 0 (omega arith) ∙ +ℤ-idr (pos (a - b))
 
--- no larger than the larger of the two
-pub dif-le : (a b M : ℕ) → a ≤ M → b ≤ M → natAbs (pos a -ℤ pos b) ≤ M
-dif-le a b M ha hb = go (decLe b a)
+-- how far two naturals are apart
+abbrev pub distance : ℕ → ℕ → ℕ
+distance a b = (a - b) + (b - a)
+
+pub natAbs-dif : (a b : ℕ) → natAbs (pos a -ℤ pos b) ≡ distance a b
+natAbs-dif a b = go (decLe b a)
   where
-    go : Dec (b ≤ a) → natAbs (pos a -ℤ pos b) ≤ M
+    go : Dec (b ≤ a) → natAbs (pos a -ℤ pos b) ≡ distance a b
     go (yes h) = rw (pos-sub a b h) (omega arith)
     go (no h) =
         let l : a ≤ b = omega arith in
         rw (sym (dif-neg b a), pos-sub b a l, natAbs-neg (pos (b - a))) (omega arith)
 
+-- no larger than the larger of the two
+pub dif-le : (a b M : ℕ) → a ≤ M → b ≤ M → natAbs (pos a -ℤ pos b) ≤ M
+dif-le a b M ha hb = rw (natAbs-dif a b) (omega arith)
+
 pub shr-le : (z : ℤ) (m B : ℕ) → 0 < m → natAbs z ≤ B * m → natAbs (shrZ z m) ≤ B
 shr-le (pos a) m B hm h = div-le-of-le-mul m (omega arith)
 shr-le (negsuc a) m B hm h = div-lt-iff-lt-mul hm .1 h
+
+pub neg-times : (z : ℤ) (t : ℕ) → negℤ z *ℤ pos t ≡ negℤ (z *ℤ pos t)
+neg-times (pos zero) t = let e : 0 * t ≡ 0 = omega arith in rw e
+neg-times (pos (suc n)) t = refl
+neg-times (negsuc n) t = sym (negℤ-negℤ (pos (suc n * t)))
 
 pub mul-is : (a b : ℤ) → natAbs a < 2 ^ 63 → natAbs b < 2 ^ 63 → rd a *ℤ rd b ≡ a *ℤ b
 mul-is a b ha hb = ap₂ (λ (x y : ℤ). x *ℤ y) (rd-is a ha) (rd-is b hb)

@@ -6,6 +6,7 @@ pub mod Buffers
 pub mod Near
 pub mod Box
 pub mod Integers
+pub mod Nearest
 pub mod Recover
 pub mod Roundtrip
 pub mod Spread

@@ -1,28 +1,20 @@
 -- The recovery in naturals, by which of byte and light is larger. Assumes nothing.
 use mathlib.Core.Path.{_≡_, refl, sym}
-use Prim.Native.Nat.{ℕ, zero, suc, _-_, _+_, _*_, _/_, min, _≤_, _<_}
+use Prim.Native.Nat.{ℕ, zero, suc, _-_, _+_, _*_, min, _≤_, _<_}
 use native.Mathlib.Decide.{decLe}
 use native.Mathlib.Omega.{arith}
-use lib.IntN.{pos, negℤ, _-ℤ_, _*ℤ_}
-use lib.Signed.{quotZ}
+use lib.IntN.{pos, negℤ, _-ℤ_}
 use Rattle.rules.specs.Transmission.{held}
-use Rattle.rules.specs.Picture.{recover}
-use Rattle.rules.proofs.Integers.{pos-sub, dif-neg}
+use Rattle.rules.specs.Picture.{rounded, recover}
+use Rattle.rules.proofs.Integers.{pos-sub, dif-neg, neg-times}
+use Rattle.rules.proofs.Nearest.{nearest-neg}
 
-pub recover-up : (a i t : ℕ) → a ≤ i → recover a i t ≡ min (a + (i - a) * 10000 / t) 255
+pub recover-up : (a i t : ℕ) → a ≤ i → recover a i t ≡ min (a + rounded ((i - a) * 10000) t) 255
 unfolding recover
 recover-up a i t h = rw (pos-sub i a h)
 
 minus-lt : (a b : ℕ) → a < b → pos a -ℤ pos b ≡ negℤ (pos (b - a))
 minus-lt a b h = let l : a ≤ b = omega arith in rw (sym (dif-neg b a), pos-sub b a l)
-
-times-neg : (d : ℕ) → negℤ (pos d) *ℤ pos 10000 ≡ negℤ (pos (d * 10000))
-times-neg zero = refl
-times-neg (suc d) = refl
-
-quot-neg : (m t : ℕ) → 0 < m → quotZ (negℤ (pos m)) (pos t) ≡ negℤ (pos (m / t))
-quot-neg zero t h = absurd (let z : 1 ≤ 0 = omega arith in omega arith)
-quot-neg (suc m) t h = refl
 
 held-neg : (d : ℕ) → held 255 (negℤ (pos d)) ≡ 0
 held-neg zero = refl
@@ -35,6 +27,6 @@ held-minus a q = go (decLe q a)
     go (yes h) = rw (pos-sub a q h)
     go (no h) = let l : a < q = omega arith in rw (minus-lt a q l, held-neg (q - a)) (omega arith)
 
-pub recover-down : (a i t : ℕ) → i < a → recover a i t ≡ min (a - (a - i) * 10000 / t) 255
+pub recover-down : (a i t : ℕ) → i < a → recover a i t ≡ min (a - rounded ((a - i) * 10000) t) 255
 unfolding recover
-recover-down a i t h = rw (minus-lt i a h, times-neg (a - i), quot-neg ((a - i) * 10000) t (omega arith)) (held-minus a ((a - i) * 10000 / t))
+recover-down a i t h = rw (minus-lt i a h, neg-times (pos (a - i)) 10000, nearest-neg (pos ((a - i) * 10000)) t) (held-minus a (rounded ((a - i) * 10000) t))

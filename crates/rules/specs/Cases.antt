@@ -129,7 +129,7 @@ table =
     ∷ record {
       no = 3;
       got = all (shape 2 1) (radii 0 1) two;
-      want = nats (200 ∷ 200 ∷ 200 ∷ 519 ∷ 5230 ∷ 200 ∷ 200 ∷ 200 ∷ 9 ∷ 105 ∷ 162 ∷ []);
+      want = nats (200 ∷ 200 ∷ 200 ∷ 519 ∷ 5230 ∷ 200 ∷ 200 ∷ 200 ∷ 9 ∷ 104 ∷ 162 ∷ []);
     }
     ∷ record { no = 4; got = all (shape 1 1) (radii 0 0) (0 ∷ 0 ∷ 0 ∷ []); want = nats (1 ∷ 1 ∷ 1 ∷ 10000 ∷ 0 ∷ 0 ∷ 0 ∷ []) }
     ∷ record {
@@ -179,41 +179,41 @@ table =
       want = nats
           (fieldMap
           ++ (0
-          ∷ 41
+          ∷ 40
           ∷ 79
-          ∷ 117
+          ∷ 116
           ∷ 158
           ∷ 196
           ∷ 235
           ∷ 2
           ∷ 41
-          ∷ 80
+          ∷ 79
           ∷ 121
           ∷ 160
           ∷ 199
-          ∷ 239
+          ∷ 240
           ∷ 5
           ∷ 44
           ∷ 85
           ∷ 124
-          ∷ 163
-          ∷ 203
+          ∷ 162
+          ∷ 204
           ∷ 243
           ∷ 6
-          ∷ 48
-          ∷ 87
+          ∷ 47
+          ∷ 86
           ∷ 126
-          ∷ 168
+          ∷ 167
           ∷ 206
           ∷ 245
-          ∷ 12
-          ∷ 51
-          ∷ 89
-          ∷ 131
-          ∷ 170
-          ∷ 208
-          ∷ 250
-          ∷ 12
+          ∷ 11
+          ∷ 50
+          ∷ 88
+          ∷ 130
+          ∷ 169
+          ∷ 209
+          ∷ 251
+          ∷ 11
           ∷ []));
     }
     -- the offset uses the floored slope
@@ -231,7 +231,7 @@ table =
     ∷ record {
       no = 18;
       got = under (shape 3 1) (set 0 1 10000 1 1000 1) (rgb 199 93 227) (199 ∷ 93 ∷ 227 ∷ 142 ∷ 174 ∷ 4 ∷ 218 ∷ 92 ∷ 236 ∷ []);
-      want = nats (354 ∷ 9795 ∷ 0 ∷ 199 ∷ 93 ∷ 227 ∷ 141 ∷ 175 ∷ 0 ∷ 255 ∷ 83 ∷ 255 ∷ []);
+      want = nats (354 ∷ 9795 ∷ 0 ∷ 199 ∷ 93 ∷ 227 ∷ 141 ∷ 176 ∷ 0 ∷ 255 ∷ 83 ∷ 255 ∷ []);
     }
     -- hazing is rounded to the nearest, and channel by channel
     ∷ record { no = 19; got = nats (haze 1 2 4999 ∷ haze 1 2 5000 ∷ []); want = nats (1 ∷ 2 ∷ []) }
@@ -332,5 +332,11 @@ table =
           ∷ bandNo (1 ∷ 2 ∷ 65535 ∷ []) 0 1
           ∷ []);
       want = nats (0 ∷ 0 ∷ 6 ∷ 6 ∷ 6 ∷ 4 ∷ 8 ∷ []);
+    }
+    -- a recovered channel, to the nearest level: two and a half of them on either side of the light, then a little less
+    ∷ record {
+      no = 27;
+      got = nats (recover 100 101 4000 ∷ recover 100 99 4000 ∷ recover 100 101 4001 ∷ recover 100 99 4001 ∷ []);
+      want = nats (103 ∷ 97 ∷ 102 ∷ 98 ∷ []);
     }
     ∷ []

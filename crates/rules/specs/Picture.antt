@@ -1,9 +1,8 @@
 -- From transmission to picture, and back: one channel, one pixel, the cleared frame, the band figure. Assumes nothing.
-use Prim.Native.Nat.{ℕ, _+_, _-_, _*_, _/_, max}
+use Prim.Native.Nat.{ℕ, suc, _+_, _-_, _*_, _/_, max}
 use mathlib.Core.List.{List}
 use lib.ListN.{length, take, drop}
-use lib.IntN.{pos, _+ℤ_, _-ℤ_, _*ℤ_}
-use lib.Signed.{quotZ}
+use lib.IntN.{ℤ, pos, negsuc, negℤ, _+ℤ_, _-ℤ_, _*ℤ_}
 use lib.Ieee.{Float, binary64, div, ofInt}
 use Rattle.rules.specs.Shape.{Shape}
 use Rattle.rules.specs.declared.Settings.{Settings}
@@ -12,10 +11,19 @@ use Rattle.rules.specs.declared.Figure.{Figure}
 use Rattle.rules.specs.Window.{Plane, least, total}
 use Rattle.rules.specs.Transmission.{held, refined}
 
--- ---- Clear: byte i under light a at transmission t (quotZ is the quotient cut toward zero)
+-- ---- Clear: byte i under light a at transmission t
+
+-- the whole number nearest to n / t, halves up
+abbrev pub rounded : ℕ → ℕ → ℕ
+rounded n t = (2 * n + t) / (2 * t)
+
+-- the whole number nearest to p / t, halves away from zero (proofs/Nearest)
+abbrev pub nearest : ℤ → ℕ → ℤ
+nearest (pos n) t = pos (rounded n t)
+nearest (negsuc n) t = negℤ (pos (rounded (suc n) t))
 
 unfoldable pub recover : ℕ → ℕ → ℕ → ℕ
-recover a i t = held 255 (pos a +ℤ quotZ ((pos i -ℤ pos a) *ℤ pos 10000) (pos t))
+recover a i t = held 255 (pos a +ℤ nearest ((pos i -ℤ pos a) *ℤ pos 10000) t)
 
 unfoldable pub recover3 : Rgb → Rgb → ℕ → Rgb
 recover3 a i t = record { r = recover (a .r) (i .r) t; g = recover (a .g) (i .g) t; b = recover (a .b) (i .b) t }

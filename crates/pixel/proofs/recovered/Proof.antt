@@ -1,7 +1,8 @@
 -- `pixel::recovered` meets its contract: each branch is a law of the recovery in naturals. Assumes nothing.
-use Prim.Native.Nat.{_≤_, _<_}
+use Prim.Native.Nat.{_-_, _*_, _≤_, _<_}
 use native.Mathlib.Omega.{arith}
 use borrow.Author.Needs.{needs}
+use Rattle.rules.proofs.Nearest.{rounded-le}
 use Rattle.rules.proofs.Recover.{recover-up, recover-down}
 use Rattle.pixel.proofs.recovered.Statement.{statement}
 use Rattle.pixel.proofs.recovered.Tie as tie
@@ -13,7 +14,9 @@ stretched-requires : tie.Need-stretched-requires
 stretched-requires c κs = search needs
 
 add-v : tie.Need-add-v
-add-v c = search needs
+add-v c =
+    let d = c .before .before .args in
+    omega (arith, rounded-le ((d .i - d .a) * 10000) (d .t) (omega arith))
 
 cast-lesser : tie.Need-cast-lesser
 cast-lesser c = search needs
