@@ -359,7 +359,7 @@ def all_calls(run, size, settings, kind, light=None):
 
 
 def small_frames(run):
-    """Every size to 4 by 4, three times."""
+    """Every size to 4 by 4, with four pairs of radii."""
     kind = 0
     for size in itertools.product(range(1, 5), repeat=2):
         for s, r in ((0, 0), (1, 0), (0, 1), (2, 3)):

@@ -1,8 +1,9 @@
 -- The same for files: from the promise of a public call of `ppm` to that of its exported function. Assumes nothing.
-use mathlib.Core.Path.{_≡_, refl, sym, _∙_}
+use mathlib.Core.Path.{_≡_, refl, sym, ap, _∙_}
 use mathlib.Core.Bool.{Bool, true, false, cond}
 use Prim.Native.Nat.{ℕ, zero, suc}
 use mathlib.Core.List.{List}
+use lib.ListN.{length}
 use native.Mathlib.Omega.{arith}
 use Rattle.rules.specs.declared.Size.{Size}
 use Rattle.rules.specs.declared.Answer.{Answer}
@@ -10,64 +11,53 @@ use Rattle.rules.specs.Promise.{said, unless}
 use Rattle.pnm.specs.declared.Head.{Head}
 use Rattle.pnm.specs.declared.Head.the-variants as head
 use Rattle.ppm.specs.declared.Taken.{Taken}
-use Rattle.ppm.specs.declared.Taken.the-variants as taken
 use Rattle.pnm.specs.Header.{good, headerOf}
-use Rattle.ppm.specs.Promise.{frameOr, Sizes, Reads, Writes}
+use Rattle.ppm.specs.Promise.{size, pixels, refuseSize, refuseRead, frameOr, takenSaid, Sizes, Reads, Writes}
+use Rattle.ppm.proofs.Exactly.{said-taken}
 use Rattle.haze_c.specs.Returns.{Returns}
-use Rattle.haze_c.specs.Netpbm.{SizeReturns, ReadPlaces, ReadReturns, WriteReturns, Heading, heading, HeaderReturns}
+use Rattle.haze_c.specs.Netpbm.{sizeAfter, SizeReturns, ReadPlaces, ReadReturns, WriteReturns, Heading, heading, HeaderReturns}
 use Rattle.haze_c.proofs.Told.{answered-returns}
 
--- ---- a frame that is taken or refused
+-- ---- a frame that is taken or refused: n is what is told, z stands in the places of its size
 
-frame-taken :
-    (refusal : ℕ) (new p z : Size) (f f′ v : List ℕ)
-    → taken.Frame z ≡ frameOr refusal new
-    → v ≡ unless refusal f′ f
-    → Returns {A = ReadPlaces} refusal (record { frame = f′; size = new }) (record { frame = f; size = p }) 0 (record { frame = v; size = z })
-frame-taken zero new p z f f′ v e after = record { number = refl; after = cc }
-frame-taken (suc n) new p z f f′ v e after = absurd (let z : _≡_ {A = ℕ} 0 1 = cc in omega arith)
+size-after : (k : ℕ) (new old : Size) → sizeAfter (frameOr k new) old ≡ unless k new old
+size-after zero new old = refl
+size-after (suc n) new old = refl
 
-frame-refused :
-    (refusal : ℕ) (new p : Size) (f f′ v : List ℕ) (n : ℕ)
-    → taken.Refused n ≡ frameOr refusal new
-    → v ≡ unless refusal f′ f
-    → Returns {A = ReadPlaces} refusal (record { frame = f′; size = new }) (record { frame = f; size = p }) n (record { frame = v; size = p })
-frame-refused zero new p f f′ v n e after = absurd (let z : _≡_ {A = ℕ} 0 1 = cc in omega arith)
-frame-refused (suc m) new p f f′ v n e after = record { number = cc; after = cc }
+both :
+    (k : ℕ) (new old : List ℕ) (z p : Size)
+    → record { frame = unless k new old; size = unless k z p } ≡ unless {A = ReadPlaces} k (record { frame = new; size = z }) (record { frame = old; size = p })
+both zero new old z p = refl
+both (suc k) new old z p = refl
 
-size-by : (refusal : ℕ) (new p z : Size) → taken.Frame z ≡ frameOr refusal new → Returns refusal new p 0 z
-size-by zero new p z e = record { number = refl; after = cc }
-size-by (suc n) new p z e = absurd (let z : _≡_ {A = ℕ} 0 1 = cc in omega arith)
+size-by :
+    (k n : ℕ) (new z p : Size) (r : Taken)
+    → n ≡ takenSaid r
+    → z ≡ sizeAfter r p
+    → r ≡ frameOr k new
+    → Returns k new p n z
+size-by k n new z p r number place e =
+    record { number = number ∙ ap takenSaid e ∙ said-taken k new; after = place ∙ ap (λ (a : Taken). sizeAfter a p) e ∙ size-after k new p }
 
-no-size-by : (refusal : ℕ) (new p : Size) (n : ℕ) → taken.Refused n ≡ frameOr refusal new → Returns refusal new p n p
-no-size-by zero new p n e = absurd (let z : _≡_ {A = ℕ} 0 1 = cc in omega arith)
-no-size-by (suc m) new p n e = record { number = cc; after = refl }
+module _ {s : List ℕ} {r : Taken} {n : ℕ} {z p : Size} (number : n ≡ takenSaid r) (place : z ≡ sizeAfter r p) where
+  pub size-returns : Sizes s r → SizeReturns s p n z
+  size-returns q = size-by (refuseSize s) n (size s) z p r number place (q .answer)
 
-module _ {s : List ℕ} {r : Taken} {p : Size} where
-  pub read-taken :
-      {f v : List ℕ} {z : Size}
-      → Reads s f r v
-      → r ≡ taken.Frame z
-      → ReadReturns s (record { frame = f; size = p }) 0 (record { frame = v; size = z })
-  read-taken q told = frame-taken _ _ _ _ _ _ _ (cc) (q .after)
-
-  pub read-refused :
-      {f v : List ℕ} {n : ℕ}
-      → Reads s f r v
-      → r ≡ taken.Refused n
-      → ReadReturns s (record { frame = f; size = p }) n (record { frame = v; size = p })
-  read-refused q told = frame-refused _ _ _ _ _ _ _ (cc) (q .after)
-
-  pub size-taken : {z : Size} → Sizes s r → r ≡ taken.Frame z → SizeReturns s p 0 z
-  size-taken q told = size-by _ _ _ _ (cc)
-
-  pub size-refused : {n : ℕ} → Sizes s r → r ≡ taken.Refused n → SizeReturns s p n p
-  size-refused q told = no-size-by _ _ _ _ (cc)
+  pub read-returns : {f v : List ℕ} → Reads s f r v → ReadReturns s (record { frame = f; size = p }) n (record { frame = v; size = z })
+  read-returns {f} q =
+      let k = refuseRead s (length f) in
+      let e = size-by k n (size s) z p r number place (q .answer) in
+      record { number = e .number; after = rw (q .after, e .after) (both k (pixels s) f (size s) p) }
 
 -- ---- a file that is written
 
-pub write-returns : {z : Size} {frame out out′ : List ℕ} {r : Answer} {n : ℕ} → Writes z frame out r out′ → n ≡ said r → WriteReturns z frame out n out′
-write-returns q told = answered-returns _ _ _ _ (q .answer) (q .after) told
+pub write-returns :
+    {z z′ : Size} {frame out out′ : List ℕ} {r : Answer} {n : ℕ}
+    → z ≡ z′
+    → Writes z frame out r out′
+    → n ≡ said r
+    → WriteReturns z′ frame out n out′
+write-returns same q told = rw (← same) (answered-returns _ _ _ _ (q .answer) (q .after) told)
 
 -- ---- a header
 

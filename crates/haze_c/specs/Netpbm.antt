@@ -5,9 +5,16 @@ use mathlib.Core.List.{List}
 use lib.ListN.{length}
 use Rattle.rules.specs.declared.Size.{Size}
 use Rattle.pnm.specs.Header.{number, second, third, last, good}
+use Rattle.ppm.specs.declared.Taken.{Taken}
+use Rattle.ppm.specs.declared.Taken.the-variants as taken
 use Rattle.ppm.specs.File.{file}
-use Rattle.ppm.specs.Promise.{size, maximum, pixels, refuseSize, refuseRead, refuseWrite}
+use Rattle.ppm.specs.Promise.{size, pixels, refuseSize, refuseRead, refuseWrite}
 use Rattle.haze_c.specs.Returns.{Returns}
+
+-- what stands in the two places of a size after an answer of the reader
+abbrev pub sizeAfter : Taken → Size → Size
+sizeAfter (taken.Frame z) old = z
+sizeAfter (taken.Refused n) old = old
 
 -- what size may write is the two places of a size
 abbrev pub SizeReturns : List ℕ → Size → ℕ → Size → Type 0

@@ -1,36 +1,28 @@
 // Netpbm files for C: a PPM file read into a frame and written from one, and the header of any such file. As the other exported functions, each returns 0
 // or the refusal number, and on a refusal nothing that it was lent changes, result places included.
 ghost use mathlib.Core.Path.{_≡_};
-ghost use Rattle.ppm.specs.Promise.{lengthFor};
+ghost use Rattle.ppm.specs.Promise.{lengthFor, takenSaid};
 ghost use Rattle.haze_c.specs.Returns.{size};
-ghost use Rattle.haze_c.specs.Netpbm.{heading, SizeReturns, ReadReturns, WriteReturns, HeaderReturns};
+ghost use Rattle.haze_c.specs.Netpbm.{heading, sizeAfter, SizeReturns, ReadReturns, WriteReturns, HeaderReturns};
 use crate::number;
 use pnm::Head;
 use ppm::Taken;
 use rules::Size;
 
-// The size of the picture in a PPM file goes into the two places.
-#[no_mangle]
-pub extern "C" fn haze_ppm_size(file: &[u8], w: &mut u64, h: &mut u64) -> u8
-    ensures { λ n. ⌜ SizeReturns (now (file .entry)) (size (now (w .entry)) (now (h .entry))) n (size (now (w .exit)) (now (h .exit))) ⌝ }
+// The size that two numbers are.
+fn sized(w: u64, h: u64) -> Size
+    ensures { λ z. ⌜ z ≡ size w h ⌝ }
 {
-    let taken = ppm::size(file);
-    match taken {
-        Taken::Frame(of) => {
-            *w = of.w as u64;
-            *h = of.h as u64;
-            0
-        }
-        Taken::Refused(n) => n,
+    Size {
+        w: w as usize,
+        h: h as usize,
     }
 }
 
-// The picture in a PPM file goes into the lent frame, its size into the two places.
-#[no_mangle]
-pub extern "C" fn haze_ppm_read(file: &[u8], frame: &mut [u8], w: &mut u64, h: &mut u64) -> u8
-    ensures { λ n. ⌜ ReadReturns (now (file .entry)) (record { frame = now (frame .entry); size = size (now (w .entry)) (now (h .entry)) }) n (record { frame = now (frame .exit); size = size (now (w .exit)) (now (h .exit)) }) ⌝ }
+// The number that the reader's answer says; the size of a frame that was taken goes into the two places.
+fn told(taken: Taken, w: &mut u64, h: &mut u64) -> u8
+    ensures { λ n. ⌜ (n ≡ takenSaid taken) × (size (now (w .exit)) (now (h .exit)) ≡ sizeAfter taken (size (now (w .entry)) (now (h .entry)))) ⌝ }
 {
-    let taken = ppm::read(file, frame);
     match taken {
         Taken::Frame(z) => {
             *w = z.w as u64;
@@ -41,16 +33,28 @@ pub extern "C" fn haze_ppm_read(file: &[u8], frame: &mut [u8], w: &mut u64, h: &
     }
 }
 
+// The size of the picture in a PPM file goes into the two places.
+#[no_mangle]
+pub extern "C" fn haze_ppm_size(file: &[u8], w: &mut u64, h: &mut u64) -> u8
+    ensures { λ n. ⌜ SizeReturns (now (file .entry)) (size (now (w .entry)) (now (h .entry))) n (size (now (w .exit)) (now (h .exit))) ⌝ }
+{
+    told(ppm::size(file), w, h)
+}
+
+// The picture in a PPM file goes into the lent frame, its size into the two places.
+#[no_mangle]
+pub extern "C" fn haze_ppm_read(file: &[u8], frame: &mut [u8], w: &mut u64, h: &mut u64) -> u8
+    ensures { λ n. ⌜ ReadReturns (now (file .entry)) (record { frame = now (frame .entry); size = size (now (w .entry)) (now (h .entry)) }) n (record { frame = now (frame .exit); size = size (now (w .exit)) (now (h .exit)) }) ⌝ }
+{
+    told(ppm::read(file, frame), w, h)
+}
+
 // How long the PPM file of a frame is, and 0 for a size that is refused.
 #[no_mangle]
 pub extern "C" fn haze_ppm_length(w: u64, h: u64) -> u64
     ensures { λ n. ⌜ n ≡ lengthFor (size w h) ⌝ }
 {
-    let z = Size {
-        w: w as usize,
-        h: h as usize,
-    };
-    ppm::length(z) as u64
+    ppm::length(sized(w, h)) as u64
 }
 
 // The PPM file of a frame goes into the lent output.
@@ -58,11 +62,7 @@ pub extern "C" fn haze_ppm_length(w: u64, h: u64) -> u64
 pub extern "C" fn haze_ppm_write(w: u64, h: u64, frame: &[u8], file: &mut [u8]) -> u8
     ensures { λ n. ⌜ WriteReturns (size w h) (now (frame .entry)) (now (file .entry)) n (now (file .exit)) ⌝ }
 {
-    let z = Size {
-        w: w as usize,
-        h: h as usize,
-    };
-    number(ppm::write(z, frame, file))
+    number(ppm::write(sized(w, h), frame, file))
 }
 
 // Width, height, maximum and the place of the first pixel byte of a file of a kind, b'6' for PPM and b'5' for PGM, go into the four places.

@@ -1,23 +1,17 @@
--- `haze_c::netpbm::haze_ppm_size` meets its contract. The size goes into the two places and 0 is returned; a refusal returns its number. Assumes nothing.
+-- `haze_c::netpbm::haze_ppm_size` meets its contract. The answer's number is returned, its size goes into the places. Assumes nothing.
 use borrow.Author.Needs.{needs}
 use Rattle.haze_c.proofs.netpbm.haze_ppm_size.Statement.{statement}
 use Rattle.haze_c.proofs.netpbm.haze_ppm_size.Tie as tie
-use Rattle.haze_c.proofs.ToldFiles.{size-taken, size-refused}
+use Rattle.haze_c.proofs.ToldFiles.{size-returns}
 
 size-requires : tie.Need-size-requires
 size-requires c κs = search needs
 
-enum-known-taken : tie.Need-enum-known-taken
-enum-known-taken c = search needs
-
-enum-known-taken-2 : tie.Need-enum-known-taken-2
-enum-known-taken-2 c = search needs
+told-requires : tie.Need-told-requires
+told-requires c κs = search needs
 
 returns : tie.Need-returns
-returns c = size-taken (c .before .before .before .size .ensures) (c .before .taken .given .1)
-
-returns-2 : tie.Need-returns-2
-returns-2 c = size-refused (c .before .before .before .size .ensures) (c .before .taken2 .given .1)
+returns c = size-returns (c .told .ensures .0) (c .told .ensures .1) (c .before .before .before .size .ensures)
 
 pub haze-ppm-size-spec : {M : Type 1} → statement M
-haze-ppm-size-spec = tie.close (tie.spec size-requires enum-known-taken enum-known-taken-2 returns returns-2)
+haze-ppm-size-spec = tie.close (tie.spec size-requires told-requires returns)

@@ -4,6 +4,9 @@ use Rattle.haze_c.proofs.netpbm.haze_ppm_write.Statement.{statement}
 use Rattle.haze_c.proofs.netpbm.haze_ppm_write.Tie as tie
 use Rattle.haze_c.proofs.ToldFiles.{write-returns}
 
+sized-requires : tie.Need-sized-requires
+sized-requires c κs = search needs
+
 write-requires : tie.Need-write-requires
 write-requires c κs = search needs
 
@@ -14,7 +17,7 @@ same-length : tie.Need-same-length
 same-length c = search needs
 
 returns : tie.Need-returns
-returns c = write-returns (c .before .before .before .write .ensures) (c .number .ensures)
+returns c = write-returns (c .before .before .before .before .before .sized .ensures) (c .before .before .before .write .ensures) (c .number .ensures)
 
 pub haze-ppm-write-spec : {M : Type 1} → statement M
-haze-ppm-write-spec = tie.close (tie.spec write-requires number-requires same-length returns)
+haze-ppm-write-spec = tie.close (tie.spec sized-requires write-requires number-requires same-length returns)
