@@ -1,5 +1,5 @@
-/* A row of two pixels, cleared: the light is found, the frame cleared under it, one pixel replaced, the map's figure read off, and the picture written as a
- * PPM file and read back. */
+/* A row of two pixels, cleared: the light is found, the frame cleared under it, one pixel replaced, the map's figure and depths read off, and the picture
+ * written as a PPM file and read back. */
 #include <stdio.h>
 #include "haze.h"
 
@@ -11,7 +11,7 @@ int main(void)
     uint8_t frame[3 * W * H] = {200, 200, 200, 100, 150, 180};
     const uint8_t new_pixel[3] = {190, 180, 170};
     uint8_t picture[3 * W * H] = {0}, red = 0, green = 0, blue = 0, answer;
-    uint16_t map[W * H] = {0};
+    uint16_t map[W * H] = {0}, depths[W * H] = {0};
     int64_t work[HAZE_WORK(W, H)] = {0};
     double mean = 0, least = 0;
     uint8_t file[sizeof "P6\n2 1\n255\n" - 1 + sizeof picture];
@@ -30,6 +30,9 @@ int main(void)
 
     answer = haze_band(W, H, map, W * H, 0, 1, &mean, &least);
     printf("band %d: mean %.4f least %.4f\n", answer, mean, least);
+
+    answer = haze_depths(W, H, map, W * H, depths, W * H);
+    printf("depths %d: %d %d\n", answer, depths[0], depths[1]);
 
     answer = haze_ppm_write(W, H, picture, sizeof picture, file, haze_ppm_length(W, H));
     printf("write %d: %d bytes\n", answer, (int)haze_ppm_length(W, H));

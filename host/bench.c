@@ -16,7 +16,7 @@ static uint64_t w, h, column, row;
 static settings k;
 static uint8_t frame[3 * MOST], picture[3 * MOST], hazy[3 * MOST], pixels[3 * SIDE * SIDE], a[3];
 static uint8_t peer_frame[3 * MOST], peer_picture[3 * MOST], peer_hazy[3 * MOST], peer_a[3];
-static uint16_t map[MOST], peer_map[MOST];
+static uint16_t map[MOST], peer_map[MOST], depths[MOST], peer_depths_of[MOST];
 static int64_t work[WORK_MOST];
 static _Alignas(64) uint8_t scratch[16 * MOST];
 static double mean, least, peer_mean, peer_least;
@@ -51,6 +51,9 @@ static int own_add(void) { return peer_add(W32, peer_picture, FRAME, peer_a, pee
 static int lib_band(void) { return haze_band(w, h, map, w * h, 0, h, &mean, &least); }
 static int own_band(void) { return peer_band(W32, peer_map, w * h, 0, (uint32_t)h, &peer_mean, &peer_least); }
 
+static int lib_depths(void) { return haze_depths(w, h, map, w * h, depths, w * h); }
+static int own_depths(void) { return peer_depths(W32, peer_map, w * h, peer_depths_of, w * h); }
+
 /* A PPM file of the frame, written and read; beside them the pixels copied, since no peer has files. */
 static uint8_t file[3 * MOST + sizeof "P6\n1024 1024\n255\n"], loaded[3 * MOST], copied[3 * MOST];
 static uint64_t loaded_w, loaded_h;
@@ -74,7 +77,8 @@ static void stop(const char *why)
 static void equal(void)
 {
     if (memcmp(a, peer_a, 3) || memcmp(frame, peer_frame, FRAME) || memcmp(map, peer_map, 2 * w * h) || memcmp(picture, peer_picture, FRAME)
-        || memcmp(hazy, peer_hazy, FRAME) || memcmp(&mean, &peer_mean, 8) || memcmp(&least, &peer_least, 8))
+        || memcmp(hazy, peer_hazy, FRAME) || memcmp(&mean, &peer_mean, 8) || memcmp(&least, &peer_least, 8)
+        || memcmp(depths, peer_depths_of, 2 * w * h))
         stop("library and peer differ");
 }
 
@@ -95,6 +99,7 @@ static void prepare(uint64_t side, uint64_t s, uint64_t r)
     must(lib_clear() | own_clear());
     must(lib_add() | own_add());
     must(lib_band() | own_band());
+    must(lib_depths() | own_depths());
     equal();
 }
 
@@ -123,6 +128,7 @@ int main(void)
     line("clear", lib_clear, own_clear);
     line("haze", lib_add, own_add);
     line("band", lib_band, own_band);
+    line("depths", lib_depths, own_depths);
     column = row = 240;
     line("replace 32x32, middle", lib_replace, own_replace);
     line("PPM written", lib_write, copy);
@@ -191,6 +197,7 @@ static void calls(void)
     clear = line("clear", lib_clear, own_clear);
     line("haze", lib_add, own_add);
     line("band, all rows", lib_band, own_band);
+    line("depths", lib_depths, own_depths);
     column = row = 240;
     middle = line("replace 32x32, middle", lib_replace, own_replace);
     column = row = 0;
@@ -224,7 +231,7 @@ static void at(const char *name, uint64_t v, uint64_t side, uint64_t s, uint64_t
 
 int main(int count, char **words)
 {
-    static const uint64_t sides[] = {128, 256, 512}, filters[] = {5, 15, 30, 60}, darks[] = {0, 7, 15, 30};
+    static const uint64_t sides[] = {128, 256, 512}, maps[] = {1, 128, 512}, filters[] = {5, 15, 30, 60}, darks[] = {0, 7, 15, 30};
     int i;
     rounds = count > 1 ? (uint64_t)atoi(words[1]) : 60;
     calls();
@@ -234,6 +241,8 @@ int main(int count, char **words)
     for (i = 0; i < 4; i++) at("r ", filters[i], 512, 7, filters[i], lib_clear, own_clear);
     title("clear, 512x512, r 30");
     for (i = 0; i < 4; i++) at("s ", darks[i], 512, darks[i], 30, lib_clear, own_clear);
+    title("depths");
+    for (i = 0; i < 3; i++) at("side ", maps[i], maps[i], 7, 30, lib_depths, own_depths);
     title("light, 512x512");
     for (i = 0; i < 4; i++) at("s ", darks[i], 512, darks[i], 30, lib_light, own_light);
     files();

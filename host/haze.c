@@ -1,4 +1,5 @@
-/* haze: clears a frame of its haze, gives its transmission map, or adds haze to a clean frame. Frames are PPM files, maps PGM files. */
+/* haze: clears a frame of its haze, gives its transmission map or its relative depth, or adds haze to a clean frame. Frames are PPM files, maps and depths
+ * PGM files. */
 #include <stdio.h>
 #include <stdlib.h>
 #include <string.h>
@@ -8,6 +9,7 @@
 static const char usage[] =
     "haze clear IN.ppm OUT.ppm [SETTING..]             the frame without its haze\n"
     "haze map IN.ppm MAP.pgm [SETTING..]               what the haze lets through: 10000 is all\n"
+    "haze depth IN.ppm DEPTH.pgm [SETTING..]           how far off, in steps of one hundredth: 0 is nearest, 918 farthest\n"
     "haze add CLEAN.ppm MAP.pgm OUT.ppm [light=R,G,B]  haze onto a clean frame\n"
     "haze help\n"
     "A SETTING is s=7 r=30 omega=9500 e=59 t0=1000 share=1, shown as they are when not given, or light=R,G,B;\n"
@@ -102,6 +104,8 @@ static void judged(const char *path, uint8_t answer)
 
 /* ---- frames and maps */
 
+#define ALL_THROUGH 10000 /* the maximum of a map */
+
 typedef struct { const char *path; uint64_t w, h; uint8_t *bytes; size_t length; } frame;
 typedef struct { const char *path; uint64_t w, h; uint16_t *entries; size_t count; } map;
 
@@ -137,14 +141,14 @@ static void write_frame(const frame *f)
     write_file(f->path, &file);
 }
 
-/* As a PPM file is judged, with two bytes an entry and a maximum of 10000. */
+/* As a PPM file is judged, with two bytes an entry and the maximum of a map. */
 static uint8_t map_refused(const content *file, uint64_t *w, uint64_t *h, uint64_t *start)
 {
     uint64_t maximum;
     uint8_t answer = haze_pnm_header(file->bytes, file->length, '5', w, h, &maximum, start);
     if (answer) return answer;
     if (!haze_ppm_length(*w, *h)) return HAZE_BAD_SIZE;
-    if (maximum != 10000) return HAZE_BAD_MAXIMUM;
+    if (maximum != ALL_THROUGH) return HAZE_BAD_MAXIMUM;
     return file->length - *start == 2 * *w * *h ? 0 : HAZE_BAD_LENGTH;
 }
 
@@ -162,10 +166,11 @@ static map read_map(const char *path)
     return m;
 }
 
-static void write_map(const map *m)
+/* Two bytes an entry, so the maximum is at least 256. */
+static void write_map(const map *m, int maximum)
 {
     char header[sizeof "P5\n1024 1024\n10000\n"];
-    size_t i, start = (size_t)snprintf(header, sizeof header, "P5\n%d %d\n10000\n", (int)m->w, (int)m->h);
+    size_t i, start = (size_t)snprintf(header, sizeof header, "P5\n%d %d\n%d\n", (int)m->w, (int)m->h, maximum);
     content file = {memory(start + 2 * m->count), start + 2 * m->count};
     uint8_t *at = file.bytes + start;
     memcpy(file.bytes, header, start);
@@ -216,7 +221,17 @@ static void map_of(char **files, options *o)
     map through;
     clear_frame(files[0], o, &picture, &through);
     through.path = files[1];
-    write_map(&through);
+    write_map(&through, ALL_THROUGH);
+}
+
+static void depth_of(char **files, options *o)
+{
+    frame picture;
+    map through, depths;
+    clear_frame(files[0], o, &picture, &through);
+    depths = new_map(files[1], through.w, through.h);
+    judged(files[0], haze_depths(through.w, through.h, through.entries, through.count, depths.entries, depths.count));
+    write_map(&depths, HAZE_DEEPEST);
 }
 
 static void same_shape(const frame *f, const map *m)
@@ -242,7 +257,7 @@ static const struct {
     const char *name;
     int files, first_kind;
     void (*run)(char **files, options *o);
-} commands[] = {{"clear", 2, S, clear}, {"map", 2, S, map_of}, {"add", 3, LIGHT, add}};
+} commands[] = {{"clear", 2, S, clear}, {"map", 2, S, map_of}, {"depth", 2, S, depth_of}, {"add", 3, LIGHT, add}};
 
 #define COMMANDS (int)(sizeof commands / sizeof *commands)
 

@@ -69,13 +69,13 @@ def through(data, *commands):
 
 
 # ---------------------------------------------------------------------------
-# The library's reader, by host/ppms.c
+# The library's reader, by host/calls.c
 # ---------------------------------------------------------------------------
 
 def read(file, size):
     """Answer, size and frame, the lent frame being of the size's length."""
     lent = bytes(3 * size[0] * size[1])
-    reply = through(b"r" + struct.pack("<QQ", len(file), len(lent)) + file + lent, [ROOT / "host/run", "ppms"])
+    reply = through(b"r" + struct.pack("<QQ", len(file), len(lent)) + file + lent, [ROOT / "host/run", "calls"])
     return reply[0], struct.unpack("<QQ", reply[1:17]), reply[17:]
 
 

@@ -456,3 +456,37 @@ int peer_band(uint32_t W, uint32_t H, const uint16_t *map, size_t map_len,
     *least = (double)low / 10000.0;
     return 0;
 }
+
+/* ------------------------------------------------------------------ relative depth */
+
+#define STEPS 918
+
+/* The depth of each entry a map may have: with more transmission the depth only falls, so the table of steps is walked once, from its end. */
+static void fill_depths(uint16_t depth_of[10001])
+{
+    uint32_t table[STEPS], x = 1000000000, d = STEPS, t;
+    int k;
+    for (k = 0; k < STEPS; k++) {
+        table[k] = x;
+        x = (uint32_t)((uint64_t)x * 99 / 100);
+    }
+    for (t = 0; t <= 10000; t++) {
+        while (d > 0 && table[d - 1] <= 100000 * t) d--;
+        depth_of[t] = (uint16_t)d;
+    }
+}
+
+int peer_depths(uint32_t W, uint32_t H, const uint16_t *map, size_t map_len,
+                uint16_t *depths, size_t depths_len)
+{
+    uint16_t depth_of[10001], top = 0;
+    size_t n, i;
+    if (bad_size(W, H)) return 1;
+    n = (size_t)W * H;
+    if (map_len != n || depths_len != n) return 4;
+    for (i = 0; i < n; i++) top = map[i] > top ? map[i] : top;
+    if (top > 10000) return 8;
+    fill_depths(depth_of);
+    for (i = 0; i < n; i++) depths[i] = depth_of[map[i]];
+    return 0;
+}

@@ -1,4 +1,4 @@
-/* The rules of document 01 in C, written for speed and exact: what the library is held against, in results by the stress program and in time by
+/* The rules of document 01, and relative depth, in C, written for speed and exact: what the library is held against, in results by the stress program and in time by
  * the bench. One thread, nothing allocated: the caller lends a scratch of peer_scratch(W, H) bytes, which is no part of the rules and stays as it falls.
  * Each function answers 0 or the refusal number, and a refusal writes nothing. There is no work area, and so no refusal of one. */
 #ifndef PEER_H
@@ -25,4 +25,6 @@ int peer_add(uint32_t W, uint32_t H, const uint8_t *clean, size_t clean_len,
               uint8_t *hazy, size_t hazy_len);
 int peer_band(uint32_t W, uint32_t H, const uint16_t *map, size_t map_len,
               uint32_t from, uint32_t to, double *mean, double *least);
+int peer_depths(uint32_t W, uint32_t H, const uint16_t *map, size_t map_len,
+                uint16_t *depths, size_t depths_len);
 #endif

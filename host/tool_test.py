@@ -17,6 +17,7 @@ from pathlib import Path
 sys.dont_write_bytecode = True
 ROOT = Path(__file__).resolve().parent.parent
 sys.path.insert(0, str(ROOT / "second"))
+import depth
 import rules
 
 NAMES = ("s", "r", "omega", "e", "t0", "share")
@@ -90,6 +91,8 @@ def written(size, settings, words, light=None):
     put("in.ppm", ppm(size, frame))
     done(["clear", "in.ppm", "out.ppm", *words], "out.ppm", ppm(size, picture))
     done(["map", "in.ppm", "out.pgm", *words], "out.pgm", pgm(size, map))
+    number, depths = depth.depths(*size, map, [0] * len(map))
+    done(["depth", "in.ppm", "depth.pgm", *words], "depth.pgm", pgm(size, depths, 918))
     clean_light = rules.light(size, rules.DEFAULTS, picture, rules.work_needed(size))[1]
     for given, word in ((clean_light, []), ((201, 202, 255), ["light=201,202,255"])):
         number, again = rules.haze(size, given, picture, map, len(picture))
@@ -182,7 +185,7 @@ def files_refused():
     for number, files in bad_frames().items():
         for data in files:
             put("bad.ppm", data)
-            for words in (["clear", "bad.ppm", "fresh"], ["map", "bad.ppm", "fresh"], ["add", "bad.ppm", "map.pgm", "fresh"]):
+            for words in (["clear", "bad.ppm", "fresh"], ["map", "bad.ppm", "fresh"], ["depth", "bad.ppm", "fresh"], ["add", "bad.ppm", "map.pgm", "fresh"]):
                 refused(words, said("bad.ppm", number))
             refused(["clear", "bad.ppm", "bad.ppm"], said("bad.ppm", number))
 
@@ -192,7 +195,7 @@ def maps_refused():
     bad = {
         11: [b"", ppm((3, 2), range(18)), whole[:12], whole.replace(b"3 2", b"3,2")],
         1: [pgm((0, 2), []), pgm((1025, 1), [0] * 1025), pgm((513, 512), [], 255)],
-        12: [pgm((3, 2), range(6), 65535), pgm((3, 2), range(6), 255), pgm((3, 2), range(5), 9999)],
+        12: [pgm((3, 2), range(6), 65535), pgm((3, 2), range(6), 918), pgm((3, 2), range(6), 255), pgm((3, 2), range(5), 9999)],
         13: [whole[:-1], whole + b"\0", whole + whole],
         8: [pgm((3, 2), [0, 1, 2, 3, 4, 10001]), pgm((3, 2), [65535, 1, 2, 3, 4, 5])],
     }
@@ -213,18 +216,19 @@ def maps_refused():
 def settings_refused():
     for name, (least, most) in zip(NAMES, rules.SETTINGS):
         for value in [most + 1, 2**64 - 1] + [0] * (least > 0):
-            for command in ("clear", "map"):
+            for command in ("clear", "map", "depth"):
                 refused([command, "frame.ppm", "fresh", f"{name}={value}"], said("frame.ppm", 2))
     refused(["map", "frame.ppm", "fresh", "s=31", "light=0,1,1"], said("frame.ppm", 2))
     for light in ("0,1,1", "1,0,1", "1,1,0"):
-        refused(["clear", "frame.ppm", "fresh", "light=" + light], said("frame.ppm", 5))
+        for command in ("clear", "depth"):
+            refused([command, "frame.ppm", "fresh", "light=" + light], said("frame.ppm", 5))
 
 
 def words_refused():
     refused([], "a command is wanted\n")
     for word in ("clean", "Clear", "help", ""):
         refused([word, "frame.ppm", "fresh"], f"this is no command: {word}\n")
-    for command, files in (("clear", 2), ("map", 2), ("add", 3)):
+    for command, files in (("clear", 2), ("map", 2), ("depth", 2), ("add", 3)):
         for count in range(files):
             refused([command, *["frame.ppm"] * count], "file names are missing after " + command + "\n")
     for word in ("q=1", "S=7", "s", "7", "", "t=1000", "fresh", "-s=7"):

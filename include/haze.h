@@ -1,13 +1,13 @@
-/* Haze: the light of a hazy frame, the frame cleared of its haze, a part of it replaced, haze added, what a band of rows lets through, and frames read from
- * PPM files and written to them.
+/* Haze: the light of a hazy frame, the frame cleared of its haze, a part of it replaced, haze added, what a band of rows lets through, relative depth, and
+ * frames read from PPM files and written to them.
  *
  * A frame is w columns by h rows, row after row from the top, each pixel red, green and blue, one byte each: 3*w*h bytes.
  * A map has one entry a pixel, in ten-thousandths: 10000 is transmission 1.
  * The work area is lent by the caller: HAZE_WORK(w, h) entries or more. Nothing is allocated and nothing is kept between two calls.
  *
  * Every function is proved to end, on every input, with the answer and the buffers that are said here. It returns 0, or the first number
- * of those that it checks, in their order, that applies; haze_ppm_length alone returns a length. When it returns a number other than 0, all that it was lent holds what it held: buffers, work area and
- * the places for results.
+ * of those that it checks, in their order, that applies; haze_ppm_length alone returns a length. When it returns a number other than 0, all that it was lent
+ * holds what it held: buffers, work area and the places for results.
  * After a call that returns 0 the first HAZE_WORK(w, h) entries of the work area are 0, and the rest is untouched. What it held before means nothing.
  *
  * What the caller must keep, since no function can see it:
@@ -34,7 +34,7 @@ enum haze_answer {
     HAZE_BAD_SIZE = 1,     /* w or h is not 1 to 1024, or w*h is above 262144 */
     HAZE_BAD_SETTING = 2,  /* a setting is outside its range */
     HAZE_BAD_FRAME = 3,    /* the frame that is read, or replaced in, is not 3*w*h bytes */
-    HAZE_BAD_BUFFER = 4,   /* the picture or the hazy frame is not 3*w*h bytes, a map not w*h entries, or the work area is too small */
+    HAZE_BAD_BUFFER = 4,   /* the picture or the hazy frame is not 3*w*h bytes, a map or the depths not w*h entries, or the work area is too small */
     HAZE_BAD_LIGHT = 5,    /* a channel of the light is 0 */
     HAZE_BAD_PLACE = 6,    /* the rectangle or the band is empty or reaches outside the frame */
     HAZE_BAD_PIXELS = 7,   /* the new pixels are not 3*width*height bytes */
@@ -77,6 +77,13 @@ uint8_t haze_add(uint64_t w, uint64_t h, uint8_t red, uint8_t green, uint8_t blu
 /* Band figure: of the rows from..to of a map, the last left out, the mean transmission goes to *mean and the least to *least. Each is one division of two
  * whole numbers in doubles, so it is fixed to the bit. Checks 1, 4, 6, 8. */
 uint8_t haze_band(uint64_t w, uint64_t h, const uint16_t *map, size_t map_len, uint64_t from, uint64_t to, double *mean, double *least);
+
+/* Depths: relative depth from a map, in steps of one hundredth. A table starts at 1000000000, each entry is 99/100 of the one before, rounded down, up to and
+ * with the first that is at most 100000: 918 entries. The depth of a map entry t is the first place, from 0, whose table entry is at most 100000*t, and 918 for
+ * t = 0; so 10000 is 0, 9999 and 9900 are 1, and more transmission never means more depth. The depth of every entry goes into depths. Checks 1, 4 for either
+ * length, 8. */
+#define HAZE_DEEPEST 918 /* the depth of an entry of 0; no depth is more */
+uint8_t haze_depths(uint64_t w, uint64_t h, const uint16_t *map, size_t map_len, uint16_t *depths, size_t depths_len);
 
 /* Files. A PPM file is P6, then width, height and maximum, then one white byte and the pixels. White is blank, tab, CR and LF. Before each number stands a
  * gap of one or more white bytes; a # anywhere in a gap, its start too, opens a comment up to the next CR or LF. A number has 1 to 6 digits; zeros may lead. */

@@ -4,8 +4,7 @@ ppmtest.py holds the two paths of ppm.py to the answers and to each other;
 ppms.py gives the same files to the library.
 """
 
-import itertools
-
+import cases
 import ppm
 
 # ---------------------------------------------------------------------------
@@ -97,14 +96,6 @@ HEADERS_BY_HAND = (
     (b"", b"5", 11), (b"P", b"5", 11), (b"P5", b"5", 11),
 )
 
-# Sizes at the limits: the products 262,144, 262,143 and every count of digits.
-GOOD_SIZES = ((1, 1), (9, 10), (10, 9), (99, 100), (100, 99), (1024, 1), (1, 1024), (999, 1), (1, 1000),
-              (1024, 256), (256, 1024), (512, 512), (513, 511))
-# 481 by 545 is 262,145.  Some are good, or nothing at all, once cut to 8, 16 or 32 bits.
-BAD_SIZES = ((0, 0), (0, 1), (1, 0), (1025, 1), (1, 1025), (1025, 0), (481, 545), (545, 481), (513, 512), (512, 513),
-             (1024, 257), (257, 1024), (1024, 1024), (65536, 65536), (65537, 1), (1, 65537), (131072, 32768),
-             (999999, 1), (1, 999999), (999999, 999999), (0, 999999))
-
 
 # ---------------------------------------------------------------------------
 # One good file, and the ways in which it can have each fault
@@ -121,16 +112,6 @@ FAULTS = {
     13: ({"left": -6}, {"left": -1}, {"left": 1}, {"left": 6}),
     4: ({"over": -1}, {"over": 1}),
 }
-
-
-def fault_sets(faults, order):
-    """Each fault alone and each pair of two numbers: (the number that wins, changes)."""
-    for number in order:
-        for one in faults[number]:
-            yield number, one
-    for first, then in itertools.combinations(order, 2):
-        for one, other in itertools.product(faults[first], faults[then]):
-            yield first, {**one, **other}
 
 
 def lent(magic=b"P6", gap=b" ", zeros=b"", size=(2, 1), maximum=255, white=b"\n", left=0, over=0):
@@ -153,8 +134,6 @@ INSIDE = (b"", b"#", b"##", b" 2 1 255 ", b"P6 1 1 255 abc", b"\0\v\f", b"\x8a\x
 TELLING = (b"\0", b"\t", b"\n", b"\v", b"\f", b"\r", b"\x1c", b" ", b"!", b"\"", b"#", b"$", b"+", b"-", b"/", b"0",
            b"1", b"2", b"9", b":", b"P", b"p", b"6", b"5", b"\x7f", b"\x80", b"\x85", b"\xa0", b"\xff", b"\r\n",
            b"#c\n", b"#\r", b"00", b"00000", b"000000", b"255", b" 255 ", b"P6", b"P6 1 1 255 ")
-# Buffers by chance stay this short.  It is the longest row.
-MOST_BYTES = 3072
 
 
 def any_comment(chance):
@@ -181,20 +160,13 @@ def any_head(chance, magic, numbers):
     return b"".join(parts) + chance.choice(WHITE)
 
 
-def any_size(chance):
-    """Small ones for the most part."""
-    if chance.randrange(8) == 0:
-        return chance.choice(GOOD_SIZES + BAD_SIZES)
-    return chance.randrange(1, 6), chance.randrange(1, 6)
-
-
 def any_file(chance):
     """A good header; the size, the maximum or the pixels may be at fault."""
-    W, H = any_size(chance)
+    W, H = cases.any_size(chance)
     maximum = chance.choice(50 * (255,) + (0, 1, 254, 256, 511, 65535, 999999))
     head = any_head(chance, b"P6", (W, H, maximum))
     left = chance.choice(50 * (0,) + (-3, -2, -1, 1, 2, 3))
-    whole = min(3 * W * H, MOST_BYTES)
+    whole = min(3 * W * H, cases.MOST_LENT)
     return head + chance.randbytes(max(0, whole + left))
 
 
@@ -249,26 +221,15 @@ def long_files():
 # What is lent
 # ---------------------------------------------------------------------------
 
-def slipped(chance, length):
-    """A length, at times one too short or too long."""
-    return max(0, length + chance.choice(6 * (0,) + (-1, 1)))
-
-
-def lendable(chance, length):
-    """The length in 64 bits, or any small one where that is too much to lend."""
-    cut = length % 2 ** 64
-    return cut if cut <= MOST_BYTES else chance.randrange(20)
-
-
 def frame_length(chance, file):
     """How long a frame is lent for a file."""
     number, found = ppm.header(file, ppm.PPM)
     W, H = found[:2] if number == 0 else (2, 1)
-    return slipped(chance, lendable(chance, 3 * W * H))
+    return cases.slipped(chance, cases.lendable(chance, 3 * W * H))
 
 
 def writer_buffers(chance, W, H):
     """A frame and an output for a size."""
-    whole = lendable(chance, 3 * W * H)
+    whole = cases.lendable(chance, 3 * W * H)
     file = 9 + len(str(W)) + len(str(H)) + whole
-    return chance.randbytes(slipped(chance, whole)), chance.randbytes(slipped(chance, file))
+    return chance.randbytes(cases.slipped(chance, whole)), chance.randbytes(cases.slipped(chance, file))

@@ -15,25 +15,23 @@ The answer and the kind are one byte, all else is numbers and buffers.  Every
 result place holds UNTOUCHED before its call.
 """
 
-import collections
 import itertools
 import os
 import random
-import struct
-import subprocess
 import sys
 
 sys.dont_write_bytecode = True
 sys.path.insert(0, os.path.dirname(os.path.abspath(__file__)))
 
+import cases
 import ppm
 import ppmfiles
+import stream
+from stream import Call, packed
 
 UNTOUCHED = 0x5555555555555555
-BUFFERS = ("frame", "out")
-
-# The reply is a list of parts, each with its name.
-Call = collections.namedtuple("Call", "words request answer reply")
+# The buffers of the replies are bytes.
+BUFFERS = {"frame": 1, "out": 1}
 
 # What each call must have answered at least once.  A length of 0 counts as 1.
 ANSWERS = {
@@ -48,10 +46,6 @@ ANSWERS = {
 # ---------------------------------------------------------------------------
 # The five calls
 # ---------------------------------------------------------------------------
-
-def packed(*numbers):
-    return struct.pack("<%dQ" % len(numbers), *numbers)
-
 
 def places(names, values):
     """The result places after a call; no values on a refusal."""
@@ -106,7 +100,7 @@ def files_by_hand(chance):
         yield header_call(ppm.PPM, file)
     for file, kind, answer in ppmfiles.HEADERS_BY_HAND:
         yield header_call(kind[0], file)
-    for number, changes in ppmfiles.fault_sets(ppmfiles.FAULTS, ppmfiles.READER_ORDER):
+    for number, changes in cases.fault_sets(ppmfiles.FAULTS, ppmfiles.READER_ORDER):
         file, frame = ppmfiles.lent(**changes)
         yield size_call(file)
         yield read_call(file, frame)
@@ -131,18 +125,9 @@ def headers(chance):
         yield header_call(kind ^ 1 << kind % 8, file)
 
 
-# Three times THIRD is 1 in 64 bits, and 1024 times 2**54 is 0.
-THIRD = 0xAAAAAAAAAAAAAAAB
-SIDES = (0, 1, 2, 3, 1024, 1025, 2 ** 8 + 1, 2 ** 16 + 1, 2 ** 31, 2 ** 32 - 1, 2 ** 32, 2 ** 32 + 2, 2 ** 54,
-         2 ** 54 + 1, 2 ** 63, 2 ** 63 + 1, THIRD, 2 ** 64 - 2, 2 ** 64 - 1)
-
-
 def frames(chance):
     """Sizes of every kind, those that wrap too; buffers right and wrong."""
-    sizes = list(itertools.product(SIDES, SIDES)) + list(ppmfiles.BAD_SIZES)
-    sizes += [(chance.getrandbits(64), chance.getrandbits(64)) for _ in range(100)]
-    sizes += [ppmfiles.any_size(chance) for _ in range(1000)]
-    for W, H in sizes:
+    for W, H in cases.every_kind_of_size(chance, 1000):
         yield length_call(W, H)
         yield write_call(W, H, *ppmfiles.writer_buffers(chance, W, H))
     # The last size that is good and the first that is not, in every row.
@@ -172,53 +157,10 @@ def all_calls(chance):
     return [call for part in (files_by_hand, files_by_chance, headers, frames, large) for call in part(chance)]
 
 
-# ---------------------------------------------------------------------------
-# What is answered
-# ---------------------------------------------------------------------------
-
-def part_difference(name, got, want):
-    """How one part of a reply differs, in words."""
-    if name not in BUFFERS:
-        return "%s is %d, the second program says %d" % (
-            name, int.from_bytes(got, "little"), int.from_bytes(want, "little"))
-    at = next(k for k in range(len(want)) if got[k] != want[k])
-    return "byte %d of %s is %d, the second program says %d" % (at, name, got[at], want[at])
-
-
-def first_difference(calls, output):
-    """The first part of a reply that differs, in words; nothing where none does."""
-    at = 0
-    for call, (name, want) in ((call, part) for call in calls for part in call.reply):
-        got = output[at:at + len(want)]
-        at += len(want)
-        if len(got) < len(want):
-            return "%s: the output ends before %s" % (call.words, name)
-        if got != want:
-            return "%s: %s" % (call.words, part_difference(name, got, want))
-    return "%d bytes more than all replies" % (len(output) - at) if len(output) > at else ""
-
-
-def never_met(calls):
-    """The answers that no call had."""
-    met = {(call.request[:1], call.answer) for call in calls}
-    wanted = {(letter, answer) for letter, answers in ANSWERS.items() for answer in answers}
-    return sorted(wanted - met)
-
-
 def main(command):
     if not command:
         raise SystemExit(__doc__)
-    calls = all_calls(random.Random(30105))
-    if never_met(calls):
-        raise SystemExit("ppms: never answered: %s" % never_met(calls))
-    run = subprocess.run(command, input=b"".join(call.request for call in calls), stdout=subprocess.PIPE, check=False)
-    difference = first_difference(calls, run.stdout)
-    if difference:
-        raise SystemExit("ppms: status %d; %s" % (run.returncode, difference))
-    if run.returncode:
-        raise SystemExit("ppms: all replies as they should be, but status %d" % run.returncode)
-    refused = sum(call.answer != 0 for call in calls)
-    print("ppms: %d calls, %d of them refused, all as the second program answers" % (len(calls), refused))
+    stream.hold("ppms", command, ANSWERS, BUFFERS, all_calls(random.Random(30105)))
 
 
 if __name__ == "__main__":

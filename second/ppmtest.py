@@ -8,6 +8,7 @@ on all short pieces of a header.
 import itertools
 import random
 
+import cases
 import ppm
 import ppmfiles
 
@@ -74,7 +75,7 @@ def group_reader_order(same):
     for name, header, size, read, *others in PATHS:
         file, frame = ppmfiles.lent()
         same("%s: no fault" % name, read(file, frame), (0, (2, 1), b"\0\1\2\3\4\5"))
-        for number, changes in ppmfiles.fault_sets(ppmfiles.FAULTS, ppmfiles.READER_ORDER):
+        for number, changes in cases.fault_sets(ppmfiles.FAULTS, ppmfiles.READER_ORDER):
             file, frame = ppmfiles.lent(**changes)
             same("%s: %s" % (name, changes), read(file, frame), (number, None, frame))
             same("%s: size, %s" % (name, changes), size(file), (0, (2, 1)) if number == 4 else (number, None))
@@ -90,7 +91,7 @@ WRITER_FAULTS = {
 
 def group_writer_order(same):
     for name, header, size, read, length, write in PATHS:
-        for number, changes in ppmfiles.fault_sets(WRITER_FAULTS, (1, 3, 4)):
+        for number, changes in cases.fault_sets(WRITER_FAULTS, (1, 3, 4)):
             given = {"size": (2, 1), "frame": b"abcdef", "out": b"?" * 17, **changes}
             W, H = given["size"]
             same("%s: %s" % (name, changes), write(W, H, given["frame"], given["out"]), (number, given["out"]))
@@ -102,12 +103,12 @@ def group_writer_order(same):
 
 def group_limits(same):
     for name, header, size, read, length, write in PATHS:
-        for W, H in ppmfiles.GOOD_SIZES:
+        for W, H in cases.GOOD_SIZES:
             head, frame = b"P6 %d %d 255 " % (W, H), b"\x80" * (3 * W * H)
             same("%s: %d by %d" % (name, W, H), size(head + frame), (0, (W, H)))
             same("%s: %d by %d, short" % (name, W, H), size(head + frame[1:]), (13, None))
             same("%s: %d by %d, more" % (name, W, H), size(head + frame + b"\n"), (13, None))
-        for W, H in ppmfiles.BAD_SIZES:
+        for W, H in cases.BAD_SIZES:
             same("%s: %d by %d" % (name, W, H), size(b"P6 %d %d 255 " % (W, H)), (1, None))
             same("%s: length of %d by %d" % (name, W, H), length(W, H), 0)
             same("%s: file of %d by %d" % (name, W, H), write(W, H, b"", b"?"), (1, b"?"))
@@ -136,7 +137,7 @@ def group_known_parts(same):
 def group_there_and_back(same):
     chance = random.Random(30102)
     sizes = [(chance.randrange(1, 40), chance.randrange(1, 40)) for _ in range(200)]
-    for W, H in sizes + list(ppmfiles.GOOD_SIZES):
+    for W, H in sizes + list(cases.GOOD_SIZES):
         frame = chance.randbytes(3 * W * H)
         for name, header, size, read, length, write in PATHS:
             number, file = write(W, H, frame, bytes(length(W, H)))
@@ -174,7 +175,7 @@ def group_paths_on_pieces(same):
 def group_paths_on_frames(same):
     chance = random.Random(30104)
     for turn in range(2000):
-        W, H = ppmfiles.any_size(chance)
+        W, H = cases.any_size(chance)
         frame, out = ppmfiles.writer_buffers(chance, W, H)
         same("length of %d by %d" % (W, H), ppm.plain_length(W, H), ppm.length(W, H))
         same("write %d by %d from %d into %d" % (W, H, len(frame), len(out)),

@@ -17,6 +17,8 @@ use Rattle.rules.specs.declared.Band.{Band}
 use Rattle.rules.specs.declared.Band.the-variants as band
 use Rattle.rules.specs.Promise.{answered, said, foundOr, figureOr, unless, Lent, Lights, Clears, Replaces, Hazes, Bands}
 use Rattle.rules.proofs.Exactly.{said-answered}
+use Rattle.depth.specs.Promise.{Depths}
+use Rattle.haze_c.specs.Depths.{DepthsReturns}
 use Rattle.haze_c.specs.Returns.{Returns, LightPlaces, LightReturns, ClearReturns, ReplaceReturns, AddReturns, BandReturns}
 
 -- ---- an answer with no value: n is its number
@@ -30,27 +32,38 @@ pub answered-returns :
 answered-returns refusal new old m e after told = record { number = told ∙ ap said e ∙ said-answered refusal; after = after }
 
 pub clear-returns :
-    {z : Size} {k k′ : Settings} {a : Rgb} {l m : Lent} {r : Answer} {n : ℕ}
+    {z z′ : Size} {k k′ : Settings} {a : Rgb} {l m : Lent} {r : Answer} {n : ℕ}
+    → z ≡ z′
     → k ≡ k′
     → Clears z k a l r m
     → n ≡ said r
-    → ClearReturns z k′ a l n m
-clear-returns same p told = rw (← same) (answered-returns _ _ _ _ (p .answer) (p .after) told)
+    → ClearReturns z′ k′ a l n m
+clear-returns sized same p told = rw (← sized, ← same) (answered-returns _ _ _ _ (p .answer) (p .after) told)
 
 pub replace-returns :
-    {z : Size} {k k′ : Settings} {a : Rgb} {c : Rect} {new : List ℕ} {l m : Lent} {r : Answer} {n : ℕ}
+    {z z′ : Size} {k k′ : Settings} {a : Rgb} {c : Rect} {new : List ℕ} {l m : Lent} {r : Answer} {n : ℕ}
+    → z ≡ z′
     → k ≡ k′
     → Replaces z k a c new l r m
     → n ≡ said r
-    → ReplaceReturns z k′ a c new l n m
-replace-returns same p told = rw (← same) (answered-returns _ _ _ _ (p .answer) (p .after) told)
+    → ReplaceReturns z′ k′ a c new l n m
+replace-returns sized same p told = rw (← sized, ← same) (answered-returns _ _ _ _ (p .answer) (p .after) told)
 
 pub add-returns :
-    {z : Size} {a : Rgb} {clean map out out′ : List ℕ} {r : Answer} {n : ℕ}
+    {z z′ : Size} {a : Rgb} {clean map out out′ : List ℕ} {r : Answer} {n : ℕ}
+    → z ≡ z′
     → Hazes z a clean map out r out′
     → n ≡ said r
-    → AddReturns z a clean map out n out′
-add-returns p told = answered-returns _ _ _ _ (p .answer) (p .after) told
+    → AddReturns z′ a clean map out n out′
+add-returns sized p told = rw (← sized) (answered-returns _ _ _ _ (p .answer) (p .after) told)
+
+pub depths-returns :
+    {z z′ : Size} {entries out out′ : List ℕ} {r : Answer} {n : ℕ}
+    → z ≡ z′
+    → Depths z entries out r out′
+    → n ≡ said r
+    → DepthsReturns z′ entries out n out′
+depths-returns sized p told = rw (← sized) (answered-returns _ _ _ _ (p .answer) (p .after) told)
 
 -- ---- an answer with a value: a case for what is found, and one for a refusal, which leaves the places as they were
 
@@ -71,20 +84,22 @@ found-refused zero new p w w′ v n e after = absurd (let z : _≡_ {A = ℕ} 0 
 found-refused (suc m) new p w w′ v n e after = record { number = cc; after = cc }
 
 pub light-found :
-    {z : Size} {k k′ : Settings} {frame : List ℕ} {w v : List ℤ} {p a : Rgb} {r : Found}
+    {z z′ : Size} {k k′ : Settings} {frame : List ℕ} {w v : List ℤ} {p a : Rgb} {r : Found}
+    → z ≡ z′
     → k ≡ k′
     → Lights z k frame w r v
     → r ≡ found.Light a
-    → LightReturns z k′ frame (record { work = w; light = p }) 0 (record { work = v; light = a })
-light-found same q told = rw (← same) (found-light _ _ _ _ _ _ _ (cc) (q .after))
+    → LightReturns z′ k′ frame (record { work = w; light = p }) 0 (record { work = v; light = a })
+light-found sized same q told = rw (← sized, ← same) (found-light _ _ _ _ _ _ _ (cc) (q .after))
 
 pub light-refused :
-    {z : Size} {k k′ : Settings} {frame : List ℕ} {w v : List ℤ} {p : Rgb} {r : Found} {n : ℕ}
+    {z z′ : Size} {k k′ : Settings} {frame : List ℕ} {w v : List ℤ} {p : Rgb} {r : Found} {n : ℕ}
+    → z ≡ z′
     → k ≡ k′
     → Lights z k frame w r v
     → r ≡ found.Refused n
-    → LightReturns z k′ frame (record { work = w; light = p }) n (record { work = v; light = p })
-light-refused same q told = rw (← same) (found-refused _ _ _ _ _ _ _ (cc) (q .after))
+    → LightReturns z′ k′ frame (record { work = w; light = p }) n (record { work = v; light = p })
+light-refused sized same q told = rw (← sized, ← same) (found-refused _ _ _ _ _ _ _ (cc) (q .after))
 
 figure-figure : (refusal : ℕ) (new old f : Figure) → band.Figure f ≡ figureOr refusal new → Returns refusal new old 0 f
 figure-figure zero new old f e = record { number = refl; after = cc }
@@ -95,15 +110,17 @@ figure-refused zero new old n e = absurd (let z : _≡_ {A = ℕ} 0 1 = cc in om
 figure-refused (suc m) new old n e = record { number = cc; after = refl }
 
 pub band-figure :
-    {z : Size} {map : List ℕ} {start end : ℕ} {old f : Figure} {r : Band}
+    {z z′ : Size} {map : List ℕ} {start end : ℕ} {old f : Figure} {r : Band}
+    → z ≡ z′
     → Bands z map start end r
     → r ≡ band.Figure f
-    → BandReturns z map start end old 0 f
-band-figure q told = figure-figure _ _ _ _ (cc)
+    → BandReturns z′ map start end old 0 f
+band-figure sized q told = rw (← sized) (figure-figure _ _ _ _ (cc))
 
 pub band-refused :
-    {z : Size} {map : List ℕ} {start end : ℕ} {old : Figure} {r : Band} {n : ℕ}
+    {z z′ : Size} {map : List ℕ} {start end : ℕ} {old : Figure} {r : Band} {n : ℕ}
+    → z ≡ z′
     → Bands z map start end r
     → r ≡ band.Refused n
-    → BandReturns z map start end old n old
-band-refused q told = figure-refused _ _ _ _ (cc)
+    → BandReturns z′ map start end old n old
+band-refused sized q told = rw (← sized) (figure-refused _ _ _ _ (cc))

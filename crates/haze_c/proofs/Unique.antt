@@ -1,4 +1,4 @@
--- No second answer meets the promise of an exported function: each of the five is an instance of `Returns`. Assumes nothing.
+-- No second answer meets the promise of an exported function that returns a refusal number: each is an instance of `Returns`. Assumes nothing.
 use mathlib.Core.Path.{_≡_}
 use Prim.Native.Nat.{ℕ}
 use Rattle.haze_c.specs.Returns.{Returns}

@@ -1,5 +1,6 @@
-// The library for C: exported functions, each one public call with its numbers in place of structs; those for files are in `netpbm`. Each returns 0 or the
-// refusal number, and on a refusal nothing that it was lent changes, result places included.
+// The library for C: exported functions, each one public call with its numbers in place of structs; that for depths is in `depths`, those for files are in
+// `netpbm`. Each returns 0 or the refusal number, and on a refusal nothing that it was lent changes, result places included.
+mod depths;
 mod netpbm;
 
 ghost use mathlib.Core.Path.{_≡_};
@@ -20,6 +21,16 @@ fn number(answer: Answer) -> u8
     match answer {
         Answer::Done => 0,
         Answer::Refused(n) => n,
+    }
+}
+
+// The size that two numbers are.
+fn sized(w: u64, h: u64) -> Size
+    ensures { λ z. ⌜ z ≡ size w h ⌝ }
+{
+    Size {
+        w: w as usize,
+        h: h as usize,
     }
 }
 
@@ -56,10 +67,7 @@ pub extern "C" fn haze_light(
 ) -> u8
     ensures { λ n. ⌜ LightReturns (size w h) (settings s r omega e t0 share) (now (frame .entry)) (record { work = now (work .entry); light = rgb (now (red .entry)) (now (green .entry)) (now (blue .entry)) }) n (record { work = now (work .exit); light = rgb (now (red .exit)) (now (green .exit)) (now (blue .exit)) }) ⌝ }
 {
-    let z = Size {
-        w: w as usize,
-        h: h as usize,
-    };
+    let z = sized(w, h);
     let k = set(s, r, omega, e, t0, share);
     let found = haze::light(z, k, frame, work);
     match found {
@@ -94,10 +102,7 @@ pub extern "C" fn haze_clear(
 ) -> u8
     ensures { λ n. ⌜ ClearReturns (size w h) (settings s r omega e t0 share) (rgb red green blue) (record { frame = now (frame .entry); map = now (map .entry); picture = now (picture .entry); work = now (work .entry) }) n (record { frame = now (frame .entry); map = now (map .exit); picture = now (picture .exit); work = now (work .exit) }) ⌝ }
 {
-    let z = Size {
-        w: w as usize,
-        h: h as usize,
-    };
+    let z = sized(w, h);
     let k = set(s, r, omega, e, t0, share);
     let a = Rgb {
         r: red,
@@ -133,10 +138,7 @@ pub extern "C" fn haze_replace(
 ) -> u8
     ensures { λ n. ⌜ ReplaceReturns (size w h) (settings s r omega e t0 share) (rgb red green blue) (rect column row width height) (now (pixels .entry)) (record { frame = now (frame .entry); map = now (map .entry); picture = now (picture .entry); work = now (work .entry) }) n (record { frame = now (frame .exit); map = now (map .exit); picture = now (picture .exit); work = now (work .exit) }) ⌝ }
 {
-    let z = Size {
-        w: w as usize,
-        h: h as usize,
-    };
+    let z = sized(w, h);
     let k = set(s, r, omega, e, t0, share);
     let a = Rgb {
         r: red,
@@ -166,10 +168,7 @@ pub extern "C" fn haze_add(
 ) -> u8
     ensures { λ n. ⌜ AddReturns (size w h) (rgb red green blue) (now (clean .entry)) (now (map .entry)) (now (hazy .entry)) n (now (hazy .exit)) ⌝ }
 {
-    let z = Size {
-        w: w as usize,
-        h: h as usize,
-    };
+    let z = sized(w, h);
     let a = Rgb {
         r: red,
         g: green,
@@ -191,10 +190,7 @@ pub extern "C" fn haze_band(
 ) -> u8
     ensures { λ n. ⌜ BandReturns (size w h) (now (map .entry)) from to (record { mean = now (mean .entry); least = now (least .entry) }) n (record { mean = now (mean .exit); least = now (least .exit) }) ⌝ }
 {
-    let z = Size {
-        w: w as usize,
-        h: h as usize,
-    };
+    let z = sized(w, h);
     let band = haze::band(z, map, from as usize, to as usize);
     match band {
         Band::Figure(f) => {

@@ -5,19 +5,9 @@ ghost use Rattle.ppm.specs.Promise.{lengthFor, takenSaid};
 ghost use Rattle.haze_c.specs.Returns.{size};
 ghost use Rattle.haze_c.specs.Netpbm.{heading, sizeAfter, SizeReturns, ReadReturns, WriteReturns, HeaderReturns};
 use crate::number;
+use crate::sized;
 use pnm::Head;
 use ppm::Taken;
-use rules::Size;
-
-// The size that two numbers are.
-fn sized(w: u64, h: u64) -> Size
-    ensures { λ z. ⌜ z ≡ size w h ⌝ }
-{
-    Size {
-        w: w as usize,
-        h: h as usize,
-    }
-}
 
 // The number that the reader's answer says; the size of a frame that was taken goes into the two places.
 fn told(taken: Taken, w: &mut u64, h: &mut u64) -> u8

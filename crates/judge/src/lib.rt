@@ -74,7 +74,7 @@ pub fn wrong_frame(z: Size, n: usize) -> bool
     n != 3 * (z.w * z.h)
 }
 
-fn wrong_map(z: Size, n: usize) -> bool
+pub fn wrong_map(z: Size, n: usize) -> bool
     requires { ⌜ GoodSize (described z) ⌝ }
     ensures { λ r. ⌜ r ≡ badMap z n ⌝ }
 {
@@ -108,7 +108,7 @@ fn wrong_band(z: Size, from: usize, to: usize) -> bool
 }
 
 // One loop over the whole map, with no way out before its end.
-fn wrong_entries(map: &[u16]) -> bool
+pub fn wrong_entries(map: &[u16]) -> bool
     ensures { λ r. ⌜ r ≡ badEntries (now (map .entry)) ⌝ }
 {
     let mut bad = false;

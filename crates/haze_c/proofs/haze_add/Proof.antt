@@ -4,6 +4,9 @@ use Rattle.haze_c.proofs.haze_add.Statement.{statement}
 use Rattle.haze_c.proofs.haze_add.Tie as tie
 use Rattle.haze_c.proofs.Told.{add-returns}
 
+sized-requires : tie.Need-sized-requires
+sized-requires c κs = search needs
+
 haze-requires : tie.Need-haze-requires
 haze-requires c κs = search needs
 
@@ -14,7 +17,7 @@ same-length : tie.Need-same-length
 same-length c = search needs
 
 returns : tie.Need-returns
-returns c = add-returns (c .before .before .before .haze .ensures) (c .number .ensures)
+returns c = add-returns (c .before .before .before .before .before .sized .ensures) (c .before .before .before .haze .ensures) (c .number .ensures)
 
 pub haze-add-spec : {M : Type 1} → statement M
-haze-add-spec = tie.close (tie.spec haze-requires number-requires same-length returns)
+haze-add-spec = tie.close (tie.spec sized-requires haze-requires number-requires same-length returns)

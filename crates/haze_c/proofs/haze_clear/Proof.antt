@@ -4,6 +4,9 @@ use Rattle.haze_c.proofs.haze_clear.Statement.{statement}
 use Rattle.haze_c.proofs.haze_clear.Tie as tie
 use Rattle.haze_c.proofs.Told.{clear-returns}
 
+sized-requires : tie.Need-sized-requires
+sized-requires c κs = search needs
+
 set-requires : tie.Need-set-requires
 set-requires c κs = search needs
 
@@ -23,12 +26,13 @@ same-length-3 : tie.Need-same-length-3
 same-length-3 c = search needs
 
 returns : tie.Need-returns
-returns c = clear-returns (c .before .before .before .before .before .before .before .before .before .before .set .ensures) (c .before .before .before .before .before .before .clear .ensures) (c .number .ensures)
+returns c = clear-returns (c .before .before .before .before .before .before .before .before .before .before .before .sized .ensures) (c .before .before .before .before .before .before .before .before .before .before .set .ensures) (c .before .before .before .before .before .before .clear .ensures) (c .number .ensures)
 
 pub haze-clear-spec : {M : Type 1} → statement M
 haze-clear-spec =
     tie.close
     (tie.spec
+    sized-requires
     set-requires
     clear-requires
     number-requires

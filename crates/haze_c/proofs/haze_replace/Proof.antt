@@ -4,6 +4,9 @@ use Rattle.haze_c.proofs.haze_replace.Statement.{statement}
 use Rattle.haze_c.proofs.haze_replace.Tie as tie
 use Rattle.haze_c.proofs.Told.{replace-returns}
 
+sized-requires : tie.Need-sized-requires
+sized-requires c κs = search needs
+
 set-requires : tie.Need-set-requires
 set-requires c κs = search needs
 
@@ -26,12 +29,13 @@ same-length-4 : tie.Need-same-length-4
 same-length-4 c = search needs
 
 returns : tie.Need-returns
-returns c = replace-returns (c .before .before .before .before .before .before .before .before .before .before .before .before .before .set .ensures) (c .before .before .before .before .before .before .before .before .replace .ensures) (c .number .ensures)
+returns c = replace-returns (c .before .before .before .before .before .before .before .before .before .before .before .before .before .before .sized .ensures) (c .before .before .before .before .before .before .before .before .before .before .before .before .before .set .ensures) (c .before .before .before .before .before .before .before .before .replace .ensures) (c .number .ensures)
 
 pub haze-replace-spec : {M : Type 1} → statement M
 haze-replace-spec =
     tie.close
     (tie.spec
+    sized-requires
     set-requires
     replace-requires
     number-requires

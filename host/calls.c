@@ -1,12 +1,13 @@
-/* Answers the requests of second/ppms.py: reads them from standard input, makes each call with every buffer and place between guard bytes, and writes what
- * came of it to standard output. A number is 8 bytes, the lowest first. A request is one byte, then its fields:
- *   s n file[n]                 size of a PPM file     answer w h
- *   r n m file[n] frame[m]      its pixels             answer w h frame[m]
- *   w w h n m frame[n] out[m]   the file of a frame    answer out[m]
- *   l w h                       its length             length
- *   h kind n file[n]            a Netpbm header        answer w h maximum start
- * kind and answer are one byte. Ends with status 0 where a request would begin; with 1 at a request that is cut or unknown, a guard or an input that was
- * written, or answers that cannot be. */
+/* Answers the requests of second/ppms.py and second/depths.py: reads them from standard input, makes each call with every buffer and place between guard
+ * bytes, and writes what came of it to standard output. A number is 8 bytes, the lowest first. A request is one byte, then its fields:
+ *   s n file[n]                  size of a PPM file     answer w h
+ *   r n m file[n] frame[m]       its pixels             answer w h frame[m]
+ *   w w h n m frame[n] out[m]    the file of a frame    answer out[m]
+ *   l w h                        its length             length
+ *   h kind n file[n]             a Netpbm header        answer w h maximum start
+ *   d w h n m map[n] depths[m]   depths of a map        answer depths[m]
+ * kind and answer are one byte, entries of map and depths two, the lowest first. Ends with status 0 where a request would begin; with 1 at a request that is
+ * cut or unknown, a guard or an input that was written, or answers that cannot be. */
 #include <stdio.h>
 #include <stdlib.h>
 #include <string.h>
@@ -15,7 +16,7 @@
 
 _Noreturn static void stop(const char *what, const char *name)
 {
-    fprintf(stderr, "ppms: %s%s\n", what, name);
+    fprintf(stderr, "calls: %s%s\n", what, name);
     exit(1);
 }
 
@@ -30,12 +31,13 @@ static uint64_t get_number(void)
     return v;
 }
 
-/* ---- loans: one file, frame and output, and the places for results */
+/* ---- loans: one file, frame, output, map and depths, and the places for results */
 
 static loan file = {"file", NULL, 0, 1, 0, 0}, frame = {"frame", NULL, 0, 1, 0, 0}, out = {"output", NULL, 0, 1, 0, 0},
+    map = {"map", NULL, 0, 2, 0, 0}, depths = {"depths", NULL, 0, 2, 0, 0},
     places[4] = {{"w", NULL, 0, 8, 0, 0}, {"h", NULL, 0, 8, 0, 0}, {"maximum", NULL, 0, 8, 0, 0}, {"start", NULL, 0, 8, 0, 0}};
 
-static loan *const loans[] = {&file, &frame, &out, &places[0], &places[1], &places[2], &places[3]};
+static loan *const loans[] = {&file, &frame, &out, &map, &depths, &places[0], &places[1], &places[2], &places[3]};
 #define LOANS (sizeof loans / sizeof *loans)
 
 static void *memory(size_t n)
@@ -54,10 +56,10 @@ static void lend(loan *l, uint64_t n)
     guard(l, n);
 }
 
-static void lend_bytes(loan *l, uint64_t n)
+static void lend_filled(loan *l, uint64_t n)
 {
     lend(l, n);
-    get(lent(l), n);
+    get(lent(l), l->bytes);
 }
 
 static void lend_places(void)
@@ -70,7 +72,7 @@ static void lend_places(void)
     }
 }
 
-#define WHOLE(l) lent(&l), l.bytes
+#define WHOLE(l) lent(&l), entries(&l)
 #define PLACE(k) lent(&places[k])
 
 /* ---- what is only read */
@@ -108,7 +110,7 @@ static void put_places(int count)
 static void size(void)
 {
     uint8_t answer;
-    lend_bytes(&file, get_number());
+    lend_filled(&file, get_number());
     lend_places();
     keep(&file);
     answer = haze_ppm_size(WHOLE(file), PLACE(0), PLACE(1));
@@ -121,8 +123,8 @@ static void read(void)
 {
     uint64_t n = get_number(), m = get_number();
     uint8_t answer;
-    lend_bytes(&file, n);
-    lend_bytes(&frame, m);
+    lend_filled(&file, n);
+    lend_filled(&frame, m);
     lend_places();
     keep(&file);
     answer = haze_ppm_read(WHOLE(file), WHOLE(frame), PLACE(0), PLACE(1));
@@ -136,8 +138,8 @@ static void write(void)
 {
     uint64_t w = get_number(), h = get_number(), n = get_number(), m = get_number();
     uint8_t answer;
-    lend_bytes(&frame, n);
-    lend_bytes(&out, m);
+    lend_filled(&frame, n);
+    lend_filled(&out, m);
     keep(&frame);
     answer = haze_ppm_write(w, h, WHOLE(frame), WHOLE(out));
     judge(&frame);
@@ -155,13 +157,26 @@ static void header(void)
 {
     uint8_t kind, answer;
     get(&kind, 1);
-    lend_bytes(&file, get_number());
+    lend_filled(&file, get_number());
     lend_places();
     keep(&file);
     answer = haze_pnm_header(WHOLE(file), kind, PLACE(0), PLACE(1), PLACE(2), PLACE(3));
     judge(&file);
     put(&answer, 1);
     put_places(4);
+}
+
+static void deepen(void)
+{
+    uint64_t w = get_number(), h = get_number(), n = get_number(), m = get_number();
+    uint8_t answer;
+    lend_filled(&map, n);
+    lend_filled(&depths, m);
+    keep(&map);
+    answer = haze_depths(w, h, WHOLE(map), WHOLE(depths));
+    judge(&map);
+    put(&answer, 1);
+    put_loan(&depths);
 }
 
 static void serve(int request)
@@ -172,6 +187,7 @@ static void serve(int request)
     case 'w': write(); break;
     case 'l': length(); break;
     case 'h': header(); break;
+    case 'd': deepen(); break;
     default: stop("a request is unknown", "");
     }
     if (fflush(stdout)) stop("an answer cannot be written", "");

@@ -1,0 +1,10 @@
+-- No second answer meets the promise. Assumes nothing.
+use mathlib.Core.Path.{_≡_}
+use mathlib.Core.List.{List}
+use Prim.Native.Nat.{ℕ}
+use Rattle.rules.specs.declared.Size.{Size}
+use Rattle.rules.specs.declared.Answer.{Answer}
+use Rattle.depth.specs.Promise.{Depths}
+
+pub depths-one : (z : Size) (entries out : List ℕ) (r r′ : Answer) (m m′ : List ℕ) → Depths z entries out r m → Depths z entries out r′ m′ → (r ≡ r′) × (m ≡ m′)
+depths-one z entries out r r′ m m′ p q = (cc, cc)
