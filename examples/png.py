@@ -1,6 +1,7 @@
-"""PNG files of frames and maps, with the standard library alone.
+"""PNG files of frames, maps and depths, with the standard library alone.
 
-    python3 -I examples/png.py FILE OUT.png              writes a PPM frame in colour, or a PGM map in 256 greys
+    python3 -I examples/png.py FILE OUT.png              writes a PPM frame in colour, a PGM map in 256 greys,
+                                                         or depths likewise, the greatest that the file has in white
     python3 -I examples/png.py --same PICTURE.png FILE   status 1 when the picture's pixels are others than the file's
 """
 
@@ -19,10 +20,11 @@ def pixels(path):
     width, height = map(int, size.split())
     if (magic, maximum) == (b"P6", b"255"):
         return width, height, 3, data
-    if (magic, maximum) == (b"P5", b"10000"):
+    if magic == b"P5" and maximum in (b"10000", b"918"):
         entries = struct.unpack(">%dH" % (width * height), data)
-        return width, height, 1, bytes((entry * 255 + 5000) // 10000 for entry in entries)
-    sys.exit(path + ": neither a frame nor a map")
+        white = 10000 if maximum == b"10000" else max(1, *entries)
+        return width, height, 1, bytes((entry * 255 + white // 2) // white for entry in entries)
+    sys.exit(path + ": neither a frame, nor a map, nor depths")
 
 
 # ---------------------------------------------------------------------------
