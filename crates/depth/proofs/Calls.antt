@@ -8,20 +8,18 @@ use lib.ListN.{length, getD}
 use Rattle.rules.specs.declared.Size.{Size}
 use Rattle.rules.specs.declared.Answer.{Answer}
 use Rattle.rules.specs.declared.Answer.the-variants as answer
-use Rattle.rules.specs.Promise.{answered, said, unless}
-use Rattle.rules.proofs.Exactly.{said-answered}
+use Rattle.rules.proofs.Exactly.{done-free}
+use Rattle.judge.proofs.Accepted.{made}
 use Rattle.depth.specs.Table.{depthOf}
 use Rattle.depth.specs.Promise.{refuseDepths, Depths}
 use Rattle.depth.proofs.Meaning.{falls, Bounds, bounds}
 use Rattle.depth.proofs.Written.{map-at}
 
 module _ {z : Size} {entries out out′ : List ℕ} {r : Answer} (done : r ≡ answer.Done) (p : Depths z entries out r out′) where
-  -- a call that is done was not refused
-  free : refuseDepths z entries (length out) ≡ 0
-  free = sym (said-answered _) ∙ ap said (sym (p .answer) ∙ done)
-
   pub each : (k : ℕ) → k < length entries → getD out′ k 0 ≡ depthOf (getD entries k 0)
-  each k h = ap (λ (l : List ℕ). getD l k 0) (p .after ∙ ap (λ (n : ℕ). unless n (map depthOf entries) out) free) ∙ map-at depthOf entries k h
+  each k h =
+      let left : out′ ≡ map depthOf entries = p .after ∙ sym (made _ _ _ (done-free (refuseDepths z entries (length out)) (sym (p .answer) ∙ done))) in
+      ap (λ (l : List ℕ). getD l k 0) left ∙ map-at depthOf entries k h
 
   pub bounded : (k : ℕ) → k < length entries → Bounds (getD entries k 0) (getD out′ k 0)
   bounded k h = subst (Bounds (getD entries k 0)) (sym (each k h)) (bounds (getD entries k 0))

@@ -78,6 +78,7 @@ fn write(every: &[u16], map: &[u16], out: &mut [u16])
     }
 }
 
+// 1, 4 for either length, 8; 0 for a call that is accepted.
 fn refuse(z: Size, map: &[u16], out: usize) -> u8
     ensures { λ r. ⌜ r ≡ refuseDepths z (now (map .entry)) out ⌝ }
 {

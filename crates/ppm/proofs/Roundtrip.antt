@@ -10,9 +10,8 @@ use Rattle.rules.specs.declared.Size.{Size}
 use Rattle.rules.specs.declared.Answer.{Answer}
 use Rattle.rules.specs.declared.Answer.the-variants as answer
 use Rattle.rules.specs.Refusals.{badSize, badFrame}
-use Rattle.rules.specs.Promise.{answered, said}
 use Rattle.rules.proofs.Good.{size-good, frame-good}
-use Rattle.rules.proofs.Exactly.{said-answered}
+use Rattle.rules.proofs.Exactly.{done-free}
 use Rattle.fields.specs.Words.{bytes}
 use Rattle.fields.specs.Decimal.{figured, decimal}
 use Rattle.fields.proofs.Decimal.{value-decimal, figured-decimal}
@@ -73,9 +72,6 @@ module _ (z : Size) (frame : List ℕ) (e : badSize z ≡ false) where
 
 -- ---- and by the promises
 
-done : (n : ℕ) → answered n ≡ answer.Done → n ≡ 0
-done n e = sym (said-answered n) ∙ ap said e
-
 pub round-trip :
     (z : Size) (frame out out′ lent lent′ : List ℕ) (r : Answer) (q : Taken)
     → Writes z frame out r out′
@@ -84,7 +80,7 @@ pub round-trip :
     → length lent ≡ length frame
     → (q ≡ taken.Frame z) × (lent′ ≡ frame)
 round-trip z frame out out′ lent lent′ r q write d read l =
-    let zero-write : refuseWrite z (length frame) (length out) ≡ 0 = done (refuseWrite z (length frame) (length out)) (sym (write .answer) ∙ d) in
+    let zero-write : refuseWrite z (length frame) (length out) ≡ 0 = done-free (refuseWrite z (length frame) (length out)) (sym (write .answer) ∙ d) in
     let none = write-exact z (length frame) (length out) .free zero-write in
     let wrote : out′ ≡ file z frame = write .after ∙ rw zero-write in
     let zero-read : refuseRead out′ (length lent) ≡ 0 = rw (wrote, l) (read-back z frame (none .0) (frame-good z (length frame) (none .1 .0))) in

@@ -85,18 +85,19 @@ pub length-bytes : (z : Shape) (f : Plane Rgb) → length (bytes z f) ≡ 3 * (z
 unfolding bytes
 length-bytes z f = from-length 0 (3 * (z .w * z .h)) (λ k. channel (k % 3) (at z f (k / 3)))
 
--- ---- what a loop over the positions shows: a list that has each entry, or each byte, is the whole map, or the whole frame
+-- ---- what a loop over the positions shows: a list that has each value of f is the list of them; so one that has each entry, or each byte, is the whole
+-- map, or the whole frame
+
+pub from-of : (n : ℕ) (f : ℕ → ℕ) (l : List ℕ) → length l ≡ n → ((k : ℕ) → k < n → getD l k 0 ≡ f k) → l ≡ from 0 n f
+from-of n f l e h = ext-getD 0 l _ (e ∙ sym (from-length 0 n f)) (λ k m. let j : k < n = omega arith in h k j ∙ sym (from-getD n f k 0 j))
 
 pub entries-of : (z : Shape) (f : Plane ℕ) (l : List ℕ) → length l ≡ z .w * z .h → ((p : ℕ) → p < z .w * z .h → getD l p 0 ≡ at z f p) → l ≡ entries z f
 unfolding entries
-entries-of z f l n h =
-    ext-getD 0 l _ (n ∙ sym (length-entries z f)) (λ i k. let j : i < z .w * z .h = omega arith in h i j ∙ sym (from-getD (z .w * z .h) (at z f) i 0 j))
+entries-of z f l n h = from-of (z .w * z .h) (at z f) l n h
 
 pub bytes-of : (z : Shape) (f : Plane Rgb) (l : List ℕ) → length l ≡ 3 * (z .w * z .h) → ((k : ℕ) → k < 3 * (z .w * z .h) → getD l k 0 ≡ channel (k % 3) (at z f (k / 3))) → l ≡ bytes z f
 unfolding bytes
-bytes-of z f l n h =
-    ext-getD 0 l _ (n ∙ sym (length-bytes z f))
-    (λ i k. let j : i < 3 * (z .w * z .h) = omega arith in h i j ∙ sym (from-getD (3 * (z .w * z .h)) (λ k. channel (k % 3) (at z f (k / 3))) i 0 j))
+bytes-of z f l n h = from-of (3 * (z .w * z .h)) (λ k. channel (k % 3) (at z f (k / 3))) l n h
 
 -- the pixel at position p, by its bytes
 pub at-pixels : (z : Shape) (l : List ℕ) (p : ℕ) → at z (pixels z l) p ≡ record { r = getD l (3 * p) 0; g = getD l (3 * p + 1) 0; b = getD l (3 * p + 2) 0 }

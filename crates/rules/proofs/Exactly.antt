@@ -1,6 +1,6 @@
 -- "Given exactly when", for any list of numbered tests, so for each operation's: a number is given exactly when its test holds and none before it
 -- does (`given`, `gives`), and a call is accepted exactly when no test holds (`accepts`, `accepted`). And an answer says its number. Assumes nothing.
-use mathlib.Core.Path.{_≡_, refl, sym}
+use mathlib.Core.Path.{_≡_, refl, sym, ap, _∙_}
 use mathlib.Core.Bool.{Bool, true, false, cond, true≢false}
 use mathlib.Core.List.{List, [], _∷_}
 use Prim.Native.Nat.{ℕ, zero, suc}
@@ -12,6 +12,7 @@ use Rattle.rules.specs.declared.Settings.{Settings}
 use Rattle.rules.specs.declared.Rgb.{Rgb}
 use Rattle.rules.specs.declared.Rect.{Rect}
 use Rattle.rules.specs.declared.Figure.{Figure}
+use Rattle.rules.specs.declared.Answer.the-variants as answer
 use Rattle.rules.specs.Refusals.{Tests, first, testsLight, testsClear, testsReplace, testsHaze, testsBand, refuseLight, refuseClear, refuseReplace, refuseHaze, refuseBand}
 use Rattle.rules.specs.Promise.{answered, foundOr, figureOr, said, foundSaid, bandSaid}
 
@@ -92,6 +93,10 @@ band-exact z map start end = exact _ refl
 pub said-answered : (n : ℕ) → said (answered n) ≡ n
 said-answered zero = refl
 said-answered (suc n) = refl
+
+-- a call that is done was not refused
+pub done-free : (n : ℕ) → answered n ≡ answer.Done → n ≡ 0
+done-free n e = sym (said-answered n) ∙ ap said e
 
 pub said-found : (n : ℕ) (a : Rgb) → foundSaid (foundOr n a) ≡ n
 said-found zero a = refl

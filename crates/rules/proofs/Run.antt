@@ -15,12 +15,12 @@ use Rattle.rules.specs.Window.{Plane}
 use Rattle.rules.specs.Transmission.{refined}
 use Rattle.rules.specs.Picture.{cleared}
 use Rattle.rules.specs.Buffers.{pixels, values, State, clear, near, patch, placed, pasted, reach, replace}
-use Rattle.rules.specs.Promise.{Lent, state, lent, unless, said, wiped, noClear, noReplace, Replaces}
+use Rattle.rules.specs.Promise.{Lent, state, lent, unless, wiped, noClear, noReplace, Replaces}
 use Rattle.rules.specs.Run.{Call, accepted, step, run, Fresh, Ran, cleared as after-clear, replaced as after-replace}
 use Rattle.rules.proofs.Local.{Agree, Local, refined-local, cleared-local}
 use Rattle.rules.proofs.Near.{far-sees}
 use Rattle.rules.proofs.Buffers.{values-entries, pixels-bytes, entries-cong, bytes-cong}
-use Rattle.rules.proofs.Exactly.{said-answered}
+use Rattle.rules.proofs.Exactly.{done-free}
 
 pub patch-no : {A : Type 0} (t : ℕ → ℕ → Bool) (new old : Plane A) (y x : ℕ) → t y x ≡ false → patch t new old y x ≡ old y x
 unfolding patch
@@ -116,7 +116,7 @@ module _ (z : Size) (k : Settings) (a : Rgb) where
   pub ran-fresh : (m : Lent) → Ran z k a m → Fresh z k a (state m)
   unfolding clear
   ran-fresh _ (after-clear l m r p e) =
-      let none : noClear z k a l ≡ 0 = sym (said-answered (noClear z k a l)) ∙ ap said (sym (p .answer) ∙ e) in
+      let none : noClear z k a l ≡ 0 = done-free (noClear z k a l) (sym (p .answer) ∙ e) in
       let left : m ≡ lent (clear (described z) k a (l .frame)) (wiped (described z) (l .work)) = rw none at (p .after) in
       rw left refl
   ran-fresh _ (after-replace l m work c new r ran p) =
