@@ -1,7 +1,7 @@
 """What PPM calls and depths are both tried with.
 
 Sizes at the limits and sizes that wrap, faults alone and in pairs, and lengths
-that are off by one.
+that are off by one.  Settings are tried with faults alone and in pairs too.
 """
 
 import itertools

@@ -6,7 +6,7 @@ document 02 gives it, that request's rounding and its bound, the order of
 refusals of each call, the edges of each range, and comparisons on seeded random
 frames: the fast path with the plain path, Replace with a fresh Clear, the text
 with a second reader made of patterns.  The checks of PPM files stand in
-ppmtest.py, those of depths in depthtest.py.
+ppmtest.py, those of depths in depthtest.py, those of settings in settingtest.py.
 
 It prints one line for each group.  Where a check fails it prints what failed
 and ends with status 1.
@@ -31,6 +31,7 @@ sys.path.insert(0, HERE)
 import depthtest
 import ppmtest
 import rules
+import settingtest
 import text
 
 WIDEST = 2 ** 64 - 1
@@ -1003,7 +1004,7 @@ GROUPS = (
     ("text, refusals by hand", group_text_refusals),
     ("text, random edits", group_text_random),
     ("text, largest frame", group_text_largest),
-) + ppmtest.GROUPS + depthtest.GROUPS
+) + ppmtest.GROUPS + depthtest.GROUPS + settingtest.GROUPS
 
 
 def run_group(name, group):

@@ -1,26 +1,21 @@
 -- A number that is written is read back: its digits are digits, few enough, and their value is the number. What is known of a number that may be read. Assumes nothing.
-use mathlib.Core.Path.{_≡_, refl, sym, ap, _∙_}
-use mathlib.Core.Bool.{Bool, true, _&&_, and-assoc}
+use mathlib.Core.Path.{_≡_, refl, ap, _∙_}
+use mathlib.Core.Bool.{true}
 use mathlib.Core.List.{List, [], _∷_, _++_}
 use Prim.Native.Nat.{ℕ, zero, suc, _+_, _-_, _*_, _/_, _%_, _≤_, _<_}
 use native.Mathlib.Decide.{decLt}
 use native.Mathlib.Omega.{arith}
-use lib.Dec.{leb, ltb}
 use lib.ListN.{length}
-use borrow.Author.Tests.{lt-ltb, le-leb, ltb-true, leb-true}
+use borrow.Author.Tests.{le-leb}
 use Rattle.fields.specs.Decimal.{digit, digits, figured, led, numeral, valueFrom, decimal}
-use Rattle.fields.proofs.Lines.{both}
+use Rattle.fields.proofs.Every.{both, every-append, up-to-is, up-to-some, up-to-most, up-to-every}
 use Rattle.fields.proofs.Written.{digit-one, digit-more, length-one, length-more, most}
 
--- ---- lists in two parts
+-- ---- a list in two parts
 
 pub value-append : (v : ℕ) (a b : List ℕ) → valueFrom v (a ++ b) ≡ valueFrom (valueFrom v a) b
 value-append v [] b = refl
 value-append v (x ∷ a) b = value-append (10 * v + (x - 48)) a b
-
-pub digits-append : (a b : List ℕ) → digits (a ++ b) ≡ (digits a && digits b)
-digits-append [] b = refl
-digits-append (x ∷ a) b = ap (λ (t : Bool). digit x && t) (digits-append a b) ∙ sym (and-assoc (digit x) (digits a) (digits b))
 
 -- ---- what holds below ten, and of a number where it holds of its tenth, holds of every number
 
@@ -60,7 +55,7 @@ digits-decimal = by-tenths (λ n. digits (decimal n) ≡ true) one more
 
     more : (n : ℕ) → 10 ≤ n → digits (decimal (n / 10)) ≡ true → digits (decimal n) ≡ true
     more n h e =
-        ap digits (digit-more n h) ∙ digits-append (decimal (n / 10)) ((48 + n % 10) ∷ []) ∙ rw (e, a-digit (n % 10) (omega arith))
+        ap digits (digit-more n h) ∙ every-append digit (decimal (n / 10)) ((48 + n % 10) ∷ []) ∙ rw (e, a-digit (n % 10) (omega arith))
 
 pub some-decimal : (n : ℕ) → 0 < length (decimal n)
 some-decimal = by-tenths (λ n. 0 < length (decimal n)) (λ n h. omega (arith, length-one n h)) (λ n h e. omega (arith, length-more n h))
@@ -68,26 +63,23 @@ some-decimal = by-tenths (λ n. 0 < length (decimal n)) (λ n h. omega (arith, l
 -- 6 digits are the most that is read
 pub figured-decimal : (n : ℕ) → n < 1000000 → figured (decimal n) ≡ true
 unfolding figured
-figured-decimal n h = rw (lt-ltb 0 (length (decimal n)) (some-decimal n), le-leb (length (decimal n)) 6 (most 5 n h), digits-decimal n)
+figured-decimal n h = up-to-is 6 digit (decimal n) (some-decimal n) (most 5 n h) ∙ digits-decimal n
 
 -- ---- what is known of a number that may be read
 
 module _ (s : List ℕ) where
   module _ (e : figured s ≡ true) where
-    figured-tests : ((ltb 0 (length s) ≡ true) × (leb (length s) 6 ≡ true)) × (digits s ≡ true)
-    unfolding figured
-    figured-tests =
-        let outer = both (ltb 0 (length s) && leb (length s) 6) (digits s) e in
-        (both (ltb 0 (length s)) (leb (length s) 6) (outer .0), outer .1)
-
     pub figured-some : 0 < length s
-    figured-some = ltb-true 0 (length s) (figured-tests .0 .0)
+    unfolding figured
+    figured-some = up-to-some 6 digit s e
 
     pub figured-most : length s ≤ 6
-    figured-most = leb-true (length s) 6 (figured-tests .0 .1)
+    unfolding figured
+    figured-most = up-to-most 6 digit s e
 
     pub figured-digits : digits s ≡ true
-    figured-digits = figured-tests .1
+    unfolding figured
+    figured-digits = up-to-every 6 digit s e
 
   module _ (e : numeral s ≡ true) where
     numeral-tests : (led s ≡ true) × (figured s ≡ true)

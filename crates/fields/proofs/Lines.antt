@@ -5,7 +5,7 @@ use mathlib.Core.Bool.{Bool, true, false, cond, _&&_, and-false, and-assoc}
 use mathlib.Core.List.{List, [], _∷_}
 use Prim.Native.Nat.{ℕ, suc, _+_, _-_, _≤_, _<_}
 use native.Mathlib.Omega.{arith}
-use lib.Dec.{leb, ltb, eqb}
+use lib.Dec.{leb, eqb}
 use lib.ListN.{length, take, drop, length-drop}
 use lib.Seq.{drop-drop}
 use borrow.Author.Tests.{eqb-true}
@@ -14,8 +14,10 @@ use Rattle.fields.specs.declared.Class.the-variants.{Digit, Lower, Tab, 
 use Rattle.fields.specs.declared.Line.{Line}
 use Rattle.fields.specs.declared.Line.the-variants.{Ends, Broken}
 use Rattle.fields.specs.Bytes.{classOf, counted, onClass, scan, lineOf, usual, plain}
-use Rattle.fields.specs.Fields.{consHead, joined, split, every}
-use Rattle.fields.specs.Decimal.{digit, digits, figured, led, numeral}
+use Rattle.fields.specs.Every.{every}
+use Rattle.fields.specs.Fields.{consHead, joined, split}
+use Rattle.fields.specs.Decimal.{digit, figured, led, numeral}
+use Rattle.fields.proofs.Every.{both, every-also, up-to-every}
 
 -- ---- the separators by their classes
 
@@ -194,14 +196,6 @@ plain-fields (b ∷ bs) = go (eqb b 9) refl (plain-fields bs)
     go true h p = p ∙ sym (ap (λ (n : ℕ). usual (classOf n) && plain bs) (eqb-true b 9 h))
     go false h p = plain-cons b (split 9 bs) (some-part 9 bs) ∙ ap (λ (t : Bool). usual (classOf b) && t) p
 
-pub both : (a b : Bool) → (a && b) ≡ true → (a ≡ true) × (b ≡ true)
-both true b e = (refl, e)
-both false b e = absurd (let z : _≡_ {A = ℕ} 0 1 = cc in let y : ⊥ = omega arith in y)
-
-plain-digits : (s : List ℕ) → digits s ≡ true → plain s ≡ true
-plain-digits [] h = refl
-plain-digits (b ∷ bs) h = let p = both (digit b) (digits bs) h in rw (p .0) (plain-digits bs (p .1))
-
 pub plain-numeral : (s : List ℕ) → numeral s ≡ true → plain s ≡ true
 unfolding numeral figured
-plain-numeral s h = plain-digits s (both (ltb 0 (length s) && leb (length s) 6) (digits s) (both (led s) (figured s) h .1) .1)
+plain-numeral s h = every-also digit (λ b. usual (classOf b)) (λ b d. rw d) s (up-to-every 6 digit s (both (led s) (figured s) h .1))

@@ -4,6 +4,7 @@ use mathlib.Core.List.{List, [], _∷_}
 use Prim.Native.Nat.{ℕ, suc}
 use lib.Dec.{leb, eqb}
 use lib.ListN.{drop}
+use Rattle.fields.specs.Every.{every}
 use Rattle.fields.specs.declared.Class.{Class}
 use Rattle.fields.specs.declared.Class.the-variants.{Digit, Lower, Tab, LineEnd, Other}
 use Rattle.fields.specs.declared.Line.{Line}
@@ -51,5 +52,4 @@ usual LineEnd = true
 usual Other = false
 
 abbrev pub plain : List ℕ → Bool
-plain [] = true
-plain (b ∷ bs) = usual (classOf b) && plain bs
+plain s = every (λ b. usual (classOf b)) s

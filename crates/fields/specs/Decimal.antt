@@ -1,9 +1,10 @@
 -- Numbers in decimal: read, 1 to 6 digits, with leading zeros or without, and written. Assumes nothing.
-use mathlib.Core.Bool.{Bool, true, cond, not, _&&_}
+use mathlib.Core.Bool.{Bool, cond, not, _&&_}
 use mathlib.Core.List.{List, [], _∷_, _++_}
 use Prim.Native.Nat.{ℕ, zero, suc, _+_, _-_, _*_, _/_, _%_}
 use lib.Dec.{leb, ltb, eqb}
 use lib.ListN.{length, getD}
+use Rattle.fields.specs.Every.{every, upTo}
 use Rattle.fields.specs.declared.Number.{Number}
 use Rattle.fields.specs.declared.Number.the-variants.{Is, Bad}
 
@@ -13,12 +14,11 @@ abbrev pub digit : ℕ → Bool
 digit b = leb 48 b && leb b 57
 
 abbrev pub digits : List ℕ → Bool
-digits [] = true
-digits (b ∷ bs) = digit b && digits bs
+digits s = every digit s
 
 -- 1 to 6 digits
 unfoldable pub figured : List ℕ → Bool
-figured s = ltb 0 (length s) && leb (length s) 6 && digits s
+figured s = upTo 6 digit s
 
 -- one digit, or more of which the first is not 0
 abbrev pub led : List ℕ → Bool

@@ -2,7 +2,7 @@
 use mathlib.Core.Path.{_≡_}
 use mathlib.Core.Bool.{Bool, true, false, _&&_}
 use mathlib.Core.List.{List, [], _∷_}
-use Prim.Native.Nat.{ℕ, _≤_, _<_}
+use Prim.Native.Nat.{ℕ, zero, suc, _+_, _≤_, _<_}
 use lib.Dec.{eqb}
 use lib.ListN.{length, getD}
 
@@ -23,10 +23,15 @@ split sep (x ∷ xs) = joined (eqb x sep) x (split sep xs)
 unfoldable pub fieldOf : ℕ → List ℕ → ℕ → List ℕ
 fieldOf sep s n = getD (split sep s) n []
 
--- every part passes the test
-abbrev pub every : (List ℕ → Bool) → List (List ℕ) → Bool
-every t [] = true
-every t (f ∷ fs) = t f && every t fs
+-- where part n begins, the first at `at` and one separator after each; 0 where there is none
+abbrev pub begins : ℕ → List (List ℕ) → ℕ → ℕ
+begins at [] n = 0
+begins at (f ∷ fs) zero = at
+begins at (f ∷ fs) (suc n) = begins (at + length f + 1) fs n
+
+-- where the n-th part begins
+unfoldable pub fieldAt : ℕ → List ℕ → ℕ → ℕ
+fieldAt sep s n = begins 0 (split sep s) n
 
 -- two lists are the same
 abbrev pub same : List ℕ → List ℕ → Bool

@@ -1,20 +1,15 @@
--- One lent slice is a part of another: the same memory, and so the same elements. Assumes nothing.
+-- One lent slice is a part of another: its bytes, and the memory they lie in. Assumes nothing.
 use mathlib.Core.Path.{_≡_}
 use mathlib.Core.List.{List}
-use Prim.Native.Nat.{ℕ, _+_, _≤_}
-use lib.ListN.{length, take, drop}
+use Prim.Native.Nat.{ℕ, _+_}
 use denote.Ref.{RefT}
-use Rattle.fields.specs.Fields.{fieldOf}
+use Rattle.fields.specs.Fields.{fieldOf, fieldAt}
 
-pub record PartOf (whole r : RefT (List ℕ)) : Type 0 where
-  pub from : ℕ
-  pub size : ℕ
-  pub within : from + size ≤ length (whole .now)
-  pub block : r .ptr .0 ≡ whole .ptr .0
-  pub offset : r .ptr .1 ≡ whole .ptr .1 + from
-  pub elements : r .now ≡ take size (drop from (whole .now))
+-- so many elements on in the same block
+abbrev pub on : ℕ × ℕ → ℕ → ℕ × ℕ
+on p n = (p .0, n + p .1)
 
--- r is the whole's own part that holds its n-th field
+-- r is the whole's own part that holds its n-th field; an empty one at the beginning where there is none
 pub record FieldOf (sep : ℕ) (whole : RefT (List ℕ)) (n : ℕ) (r : RefT (List ℕ)) : Type 0 where
   pub field : r .now ≡ fieldOf sep (whole .now) n
-  pub part : PartOf whole r
+  pub lies : r .ptr ≡ on (whole .ptr) (fieldAt sep (whole .now) n)

@@ -77,7 +77,7 @@ pub fn end_of(s: &[u8], at: usize, sep: u8) -> usize
     i
 }
 
-// The n-th part of s between bytes sep, counted from 0, and an empty part where there is none.
+// The n-th part of s between bytes sep, counted from 0, and an empty part at the beginning where there is none.
 pub fn part<'a>(s: &'a [u8], sep: u8, n: usize) -> &'a [u8]
     ensures { λ r. ⌜ FieldOf sep (s .entry) n r ⌝ }
 {

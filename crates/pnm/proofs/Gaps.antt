@@ -7,7 +7,7 @@ use native.Mathlib.Omega.{arith}
 use lib.Dec.{leb}
 use lib.ListN.{length, length-append}
 use borrow.Author.Tests.{ne-eqb, leb-true}
-use Rattle.fields.proofs.Lines.{both}
+use Rattle.fields.proofs.Every.{both}
 use Rattle.fields.proofs.Decimal.{figured-some, figured-digits}
 use Rattle.fields.specs.Decimal.{digit, digits, figured}
 use Rattle.pnm.specs.Header.{ends, white, opens, gapIn, run}

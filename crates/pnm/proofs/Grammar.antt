@@ -8,7 +8,7 @@ use lib.Dec.{leb, ltb, eqb}
 use lib.ListN.{length, getD, take, drop, length-take, length-drop, take-append-drop}
 use lib.Seq.{drop-drop, drop-cons}
 use borrow.Author.Tests.{ltb-true, eqb-true}
-use Rattle.fields.proofs.Lines.{both}
+use Rattle.fields.proofs.Every.{both}
 use Rattle.fields.specs.Decimal.{figured}
 use Rattle.pnm.specs.Header.{white, gapIn, run, from, figures, past, token, second, third, last, magic, closed, good}
 use Rattle.pnm.specs.Gap.{joined, Gap, Parts, GoodParts, header}

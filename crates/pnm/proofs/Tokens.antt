@@ -8,7 +8,7 @@ use native.Mathlib.Omega.{arith}
 use lib.Dec.{leb, eqb}
 use lib.ListN.{length, getD, take, drop, length-drop}
 use borrow.Author.Tests.{lt-ltb, le-ltb, leb-true}
-use Rattle.fields.proofs.Lines.{both}
+use Rattle.fields.proofs.Every.{both}
 use Rattle.fields.specs.declared.Number.the-variants as number
 use Rattle.fields.specs.Decimal.{digit, figured, digitsOf, valueFrom}
 use Rattle.pnm.proofs.Scan.{is, is-not}

@@ -11,7 +11,7 @@ use borrow.Author.Tests.{ltb-true}
 use Rattle.rules.specs.declared.Size.{Size}
 use Rattle.rules.specs.Refusals.{first, off, badSize, badFrame}
 use Rattle.rules.proofs.Good.{same-of, frame-good}
-use Rattle.fields.proofs.Lines.{both}
+use Rattle.fields.proofs.Every.{both}
 use Rattle.pnm.specs.declared.Head.the-variants as head
 use Rattle.ppm.specs.declared.Taken.the-variants as taken
 use Rattle.pnm.specs.Header.{number, token, second, third, last, magic, closed, good, headerOf}

@@ -15,12 +15,14 @@ use Rattle.rules.specs.Refusals.{badSize, badSettings}
 use Rattle.rules.proofs.Good.{neither}
 use Rattle.fields.specs.Words.{bytes}
 use Rattle.fields.specs.Fields.{split, fieldOf}
+use Rattle.fields.specs.LaidOut.{laid}
+use Rattle.fields.specs.Decimal.{numeral}
 use Rattle.fields.proofs.Written.{take-sets}
 use Rattle.records.specs.declared.Kind.{Kind}
 use Rattle.records.specs.declared.Kind.the-variants.{Size as kindSize, Set as kindSet, Px as kindPx}
 use Rattle.records.specs.declared.Reader.{Reader}
 use Rattle.records.specs.declared.Frame.{Frame}
-use Rattle.records.specs.Records.{laid, numberAt, sizeOf, settingsOf, colourOf, large, bright, fault}
+use Rattle.records.specs.Records.{numberAt, sizeOf, settingsOf, colourOf, large, bright, fault}
 use Rattle.records.specs.Judging.{Verdict, onward, cells, kinds, channels, painted}
 use Rattle.records.specs.Reader.{outcome, Stands, passed, Accepted, Passed, Painted, lineFrom, Framed}
 
@@ -34,14 +36,14 @@ pub size-facts : (line : List ℕ) → fault kindSize line ≡ 0 → (badSize (s
 unfolding fault
 size-facts line h =
     let ten : ℕ = cond (large (sizeOf line)) 10 0 in
-    let a = past 8 (cond (badSize (sizeOf line)) 1 ten) (not (laid (bytes "size") 2 line)) h in
+    let a = past 8 (cond (badSize (sizeOf line)) 1 ten) (not (laid numeral (bytes "size") 2 line)) h in
     let b = past 0 ten (badSize (sizeOf line)) (a .1) in
     (b .0, past 9 0 (large (sizeOf line)) (b .1) .0)
 
 pub set-facts : (line : List ℕ) → fault kindSet line ≡ 0 → badSettings (settingsOf line) ≡ false
 unfolding fault
 set-facts line h =
-    let a = past 8 (cond (badSettings (settingsOf line)) 2 0) (not (laid (bytes "set") 6 line)) h in
+    let a = past 8 (cond (badSettings (settingsOf line)) 2 0) (not (laid numeral (bytes "set") 6 line)) h in
     past 1 0 (badSettings (settingsOf line)) (a .1) .0
 
 pub record Small (line : List ℕ) : Type 0 where
@@ -52,7 +54,7 @@ pub record Small (line : List ℕ) : Type 0 where
 pub px-facts : (line : List ℕ) → fault kindPx line ≡ 0 → Small line
 unfolding fault bright
 px-facts line h =
-    let a = neither (not (laid (bytes "px") 3 line)) (bright line) (past 8 0 (not (laid (bytes "px") 3 line) || bright line) h .0) in
+    let a = neither (not (laid numeral (bytes "px") 3 line)) (bright line) (past 8 0 (not (laid numeral (bytes "px") 3 line) || bright line) h .0) in
     let b = neither (ltb 255 (numberAt line 1) || ltb 255 (numberAt line 2)) (ltb 255 (numberAt line 3)) (a .1) in
     let c = neither (ltb 255 (numberAt line 1)) (ltb 255 (numberAt line 2)) (b .0) in
     record { red = ltb-false 255 (numberAt line 1) (c .0); green = ltb-false 255 (numberAt line 2) (c .1); blue = ltb-false 255 (numberAt line 3) (b .1) }

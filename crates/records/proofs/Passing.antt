@@ -1,62 +1,32 @@
 -- One line on. A line with a byte of the class other is laid out as no record, so a broken line is refused with 9; a line that ends is judged, and the
 -- verdict on the whole is the verdict on what is left. Assumes nothing.
-use mathlib.Core.Path.{_≡_, refl, sym, ap, ap₂, _∙_}
-use mathlib.Core.Bool.{Bool, true, false, _&&_}
+use mathlib.Core.Path.{_≡_, refl, sym, ap, _∙_}
+use mathlib.Core.Bool.{false}
 use mathlib.Core.List.{List, [], _∷_}
 use Prim.Native.Nat.{ℕ, zero, suc, _+_, _-_, _<_}
 use native.Mathlib.Numerals.{add-one}
 use native.Mathlib.Omega.{arith}
-use lib.Dec.{eqb}
-use lib.ListN.{length, getD, take, drop}
-use borrow.Author.Tests.{eqb-true}
+use lib.ListN.{length, take, drop}
 use Rattle.fields.specs.declared.Line.the-variants.{Broken}
 use Rattle.fields.specs.Words.{bytes}
 use Rattle.fields.specs.Bytes.{plain, lineOf}
-use Rattle.fields.specs.Fields.{split, fieldOf, every, same}
+use Rattle.fields.specs.Fields.{split}
 use Rattle.fields.specs.Decimal.{numeral}
-use Rattle.fields.proofs.Lines.{both, some-part, sound, broken, Ended, plain-fields, plain-numeral}
+use Rattle.fields.proofs.LaidOut.{rough-unlaid}
+use Rattle.fields.proofs.Lines.{some-part, sound, broken, Ended, plain-numeral}
 use Rattle.records.specs.declared.Kind.{Kind}
 use Rattle.records.specs.declared.Kind.the-variants.{Size, Set, Px}
 use Rattle.records.specs.declared.Reader.{Reader}
-use Rattle.records.specs.Records.{laid, fault}
+use Rattle.records.specs.Records.{fault}
 use Rattle.records.specs.Judging.{Verdict, bad, onward, judge}
 use Rattle.records.specs.Reader.{outcome, Stands, Passed}
 use Rattle.records.proofs.Records.{size-unlaid, set-unlaid, px-unlaid}
 
--- ---- a line that is laid out is plain
-
-pub same-eq : (a b : List ℕ) → same a b ≡ true → a ≡ b
-same-eq [] [] h = refl
-same-eq [] (y ∷ ys) h = absurd (let z : _≡_ {A = ℕ} 0 1 = cc in let w : ⊥ = omega arith in w)
-same-eq (x ∷ xs) [] h = absurd (let z : _≡_ {A = ℕ} 0 1 = cc in let w : ⊥ = omega arith in w)
-same-eq (x ∷ xs) (y ∷ ys) h = let p = both (eqb x y) (same xs ys) h in ap₂ (λ (a : ℕ) (l : List ℕ). a ∷ l) (eqb-true x y (p .0)) (same-eq xs ys (p .1))
-
-numbers-plain : (fs : List (List ℕ)) → every numeral fs ≡ true → every plain fs ≡ true
-numbers-plain [] h = refl
-numbers-plain (f ∷ fs) h = let p = both (numeral f) (every numeral fs) h in rw (plain-numeral f (p .0)) (numbers-plain fs (p .1))
-
-fields-plain : (word : List ℕ) → plain word ≡ true → (fs : List (List ℕ)) → same (getD fs 0 []) word ≡ true → every numeral (drop 1 fs) ≡ true → every plain fs ≡ true
-fields-plain word w [] s n = refl
-fields-plain word w (f ∷ fs) s n = rw (ap plain (same-eq f word s) ∙ w) (numbers-plain fs n)
-
-laid-plain : (word : List ℕ) (n : ℕ) (line : List ℕ) → plain word ≡ true → laid word n line ≡ true → plain line ≡ true
-unfolding laid fieldOf
-laid-plain word n line w h =
-    let p = both (same (getD (split 9 line) 0 []) word && eqb (length (split 9 line)) (suc n)) (every numeral (drop 1 (split 9 line))) h in
-    let q = both (same (getD (split 9 line) 0 []) word) (eqb (length (split 9 line)) (suc n)) (p .0) in
-    sym (plain-fields line) ∙ fields-plain word w (split 9 line) (q .0) (p .1)
-
-unlaid : (word : List ℕ) (n : ℕ) (line : List ℕ) → plain word ≡ true → plain line ≡ false → laid word n line ≡ false
-unlaid word n line w h = go (laid word n line) refl
-  where
-    go : (t : Bool) → laid word n line ≡ t → t ≡ false
-    go false e = refl
-    go true e = sym (laid-plain word n line w e) ∙ h
-
+-- a line with a byte of the class other is no record
 rough : (k : Kind) (line : List ℕ) → plain line ≡ false → fault k line ≡ 9
-rough Size line h = sym (size-unlaid line (unlaid (bytes "size") 2 line refl h))
-rough Set line h = sym (set-unlaid line (unlaid (bytes "set") 6 line refl h))
-rough Px line h = sym (px-unlaid line (unlaid (bytes "px") 3 line refl h))
+rough Size line h = sym (size-unlaid line (rough-unlaid numeral (bytes "size") line 2 refl plain-numeral h))
+rough Set line h = sym (set-unlaid line (rough-unlaid numeral (bytes "set") line 6 refl plain-numeral h))
+rough Px line h = sym (px-unlaid line (rough-unlaid numeral (bytes "px") line 3 refl plain-numeral h))
 
 -- ---- the verdict, one line on
 

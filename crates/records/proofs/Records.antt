@@ -1,20 +1,18 @@
--- One line: what its fields say as numbers, a turn over its fields, and the tests in their order. Assumes nothing.
+-- One line: what its fields say as numbers, and what is wrong with it, test by test. Assumes nothing.
 use mathlib.Core.Path.{_≡_, refl, sym, ap, _∙_}
 use mathlib.Core.Bool.{Bool, true, false, cond}
-use mathlib.Core.List.{List, []}
-use Prim.Native.Nat.{ℕ, suc, _+_, _≤_, _<_}
+use mathlib.Core.List.{List}
+use Prim.Native.Nat.{ℕ}
 use native.Mathlib.Omega.{arith}
-use lib.ListN.{length, drop, drop-of-length-le}
-use borrow.Author.Tests.{eq-eqb, ne-eqb}
 use Rattle.fields.specs.declared.Number.{Number}
 use Rattle.fields.specs.declared.Number.the-variants.{Is, Bad}
-use Rattle.fields.specs.Fields.{split, fieldOf, every, same}
+use Rattle.fields.specs.LaidOut.{laid}
+use Rattle.fields.specs.Fields.{fieldOf}
 use Rattle.fields.specs.Decimal.{numeral, numberOf, valueFrom, valueIn}
-use Rattle.fields.proofs.Steps.{step}
 use Rattle.rules.specs.Refusals.{badSize, badSettings}
 use Rattle.fields.specs.Words.{bytes}
 use Rattle.records.specs.declared.Kind.the-variants.{Size, Set, Px}
-use Rattle.records.specs.Records.{laid, numberAt, sizeOf, settingsOf, large, bright, fault}
+use Rattle.records.specs.Records.{numberAt, sizeOf, settingsOf, large, bright, fault}
 
 -- ---- a field as a number
 
@@ -39,52 +37,22 @@ pub number-by : (line : List ℕ) (i : ℕ) (n k : Number) → n ≡ numberOf (f
 unfolding numberAt
 number-by line i n k e q = ap valueIn (sym q ∙ e)
 
--- ---- a turn over the fields
-
-module _ (line : List ℕ) (i : ℕ) where
-  pub numbers-on : i < length (split 9 line) → numeral (fieldOf 9 line i) ≡ true → every numeral (drop i (split 9 line)) ≡ every numeral (drop (i + 1) (split 9 line))
-  unfolding fieldOf
-  numbers-on h e = ap (every numeral) (step (split 9 line) i [] h) ∙ rw e
-
-  pub numbers-off : i < length (split 9 line) → numeral (fieldOf 9 line i) ≡ false → every numeral (drop i (split 9 line)) ≡ false
-  unfolding fieldOf
-  numbers-off h e = ap (every numeral) (step (split 9 line) i [] h) ∙ rw e
-
-  pub numbers-end : length (split 9 line) ≤ i → every numeral (drop i (split 9 line)) ≡ true
-  numbers-end h = ap (every numeral) (drop-of-length-le (split 9 line) h)
-
--- ---- the layout, test by test
-
-module _ (word line : List ℕ) (n : ℕ) where
-  pub laid-word : same (fieldOf 9 line 0) word ≡ false → false ≡ laid word n line
-  unfolding laid
-  laid-word e = rw e
-
-  module _ (w : same (fieldOf 9 line 0) word ≡ true) where
-    pub laid-count : (length (split 9 line) ≡ n + 1 → ⊥) → false ≡ laid word n line
-    unfolding laid
-    laid-count e = rw (w, ne-eqb (length (split 9 line)) (suc n) (λ q. e (let z : length (split 9 line) ≡ n + 1 = omega arith in z)))
-
-    pub laid-numbers : length (split 9 line) ≡ n + 1 → every numeral (drop 1 (split 9 line)) ≡ laid word n line
-    unfolding laid
-    laid-numbers e = rw (w, eq-eqb (length (split 9 line)) (suc n) (let z : length (split 9 line) ≡ suc n = omega arith in z))
-
 -- ---- what is wrong with a line, test by test
 
 module _ (line : List ℕ) where
-  pub size-unlaid : laid (bytes "size") 2 line ≡ false → 9 ≡ fault Size line
+  pub size-unlaid : laid numeral (bytes "size") 2 line ≡ false → 9 ≡ fault Size line
   unfolding fault
   size-unlaid e = rw e
 
-  pub set-unlaid : laid (bytes "set") 6 line ≡ false → 9 ≡ fault Set line
+  pub set-unlaid : laid numeral (bytes "set") 6 line ≡ false → 9 ≡ fault Set line
   unfolding fault
   set-unlaid e = rw e
 
-  pub px-unlaid : laid (bytes "px") 3 line ≡ false → 9 ≡ fault Px line
+  pub px-unlaid : laid numeral (bytes "px") 3 line ≡ false → 9 ≡ fault Px line
   unfolding fault
   px-unlaid e = rw e
 
-  module _ (l : laid (bytes "size") 2 line ≡ true) where
+  module _ (l : laid numeral (bytes "size") 2 line ≡ true) where
     pub size-wrong : badSize (sizeOf line) ≡ true → 1 ≡ fault Size line
     unfolding fault
     size-wrong e = rw (l, e)
@@ -97,7 +65,7 @@ module _ (line : List ℕ) where
     unfolding fault
     size-good e f = rw (l, e, f)
 
-  module _ (l : laid (bytes "set") 6 line ≡ true) where
+  module _ (l : laid numeral (bytes "set") 6 line ≡ true) where
     pub set-wrong : badSettings (settingsOf line) ≡ true → 2 ≡ fault Set line
     unfolding fault
     set-wrong e = rw (l, e)
@@ -106,7 +74,7 @@ module _ (line : List ℕ) where
     unfolding fault
     set-good e = rw (l, e)
 
-  module _ (l : laid (bytes "px") 3 line ≡ true) where
+  module _ (l : laid numeral (bytes "px") 3 line ≡ true) where
     pub px-bright : bright line ≡ true → 9 ≡ fault Px line
     unfolding fault
     px-bright e = rw (l, e)

@@ -1,23 +1,18 @@
 -- One line of the program's text: what each record says, and what is wrong with a line. A line is given without its line end. Assumes nothing.
-use mathlib.Core.Bool.{Bool, not, _&&_, _||_}
+use mathlib.Core.Bool.{Bool, not, _||_}
 use mathlib.Core.List.{List, [], _∷_}
-use Prim.Native.Nat.{ℕ, suc}
-use lib.Dec.{ltb, eqb}
-use lib.ListN.{length, drop}
+use Prim.Native.Nat.{ℕ}
+use lib.Dec.{ltb}
 use Rattle.rules.specs.declared.Size.{Size}
 use Rattle.rules.specs.declared.Settings.{Settings}
 use Rattle.rules.specs.declared.Rgb.{Rgb}
 use Rattle.rules.specs.Refusals.{first, badSize, badSettings}
 use Rattle.fields.specs.Words.{bytes}
-use Rattle.fields.specs.Fields.{split, fieldOf, every, same}
+use Rattle.fields.specs.Fields.{fieldOf}
+use Rattle.fields.specs.LaidOut.{laid}
 use Rattle.fields.specs.Decimal.{numeral, numberOf, valueIn}
 use Rattle.records.specs.declared.Kind.{Kind}
 use Rattle.records.specs.declared.Kind.the-variants.{Size as kindSize, Set as kindSet, Px as kindPx}
-
--- ---- the layout: the word, then so many numbers, fields parted by one tab
-
-unfoldable pub laid : List ℕ → ℕ → List ℕ → Bool
-laid word n line = same (fieldOf 9 line 0) word && eqb (length (split 9 line)) (suc n) && every numeral (drop 1 (split 9 line))
 
 -- the number in field n, 0 where there is none
 unfoldable pub numberAt : List ℕ → ℕ → ℕ
@@ -48,7 +43,8 @@ large z = ltb 24 (z .w) || ltb 24 (z .h)
 unfoldable pub bright : List ℕ → Bool
 bright line = ltb 255 (numberAt line 1) || ltb 255 (numberAt line 2) || ltb 255 (numberAt line 3)
 
+-- 9: the line is not the word and its numbers
 unfoldable pub fault : Kind → List ℕ → ℕ
-fault kindSize line = first ((9, not (laid (bytes "size") 2 line)) ∷ (1, badSize (sizeOf line)) ∷ (10, large (sizeOf line)) ∷ [])
-fault kindSet line = first ((9, not (laid (bytes "set") 6 line)) ∷ (2, badSettings (settingsOf line)) ∷ [])
-fault kindPx line = first ((9, not (laid (bytes "px") 3 line) || bright line) ∷ [])
+fault kindSize line = first ((9, not (laid numeral (bytes "size") 2 line)) ∷ (1, badSize (sizeOf line)) ∷ (10, large (sizeOf line)) ∷ [])
+fault kindSet line = first ((9, not (laid numeral (bytes "set") 6 line)) ∷ (2, badSettings (settingsOf line)) ∷ [])
+fault kindPx line = first ((9, not (laid numeral (bytes "px") 3 line) || bright line) ∷ [])

@@ -7,9 +7,11 @@ ghost use mathlib.Core.Path.{_≡_};
 ghost use Prim.Native.Nat.{_+_, _*_, _≤_, _<_};
 ghost use lib.ListN.{length, drop};
 ghost use lib.Seq.{sets};
-ghost use Rattle.fields.specs.Fields.{split, fieldOf, every};
+ghost use Rattle.fields.specs.Every.{every};
+ghost use Rattle.fields.specs.LaidOut.{laid as isLaid};
+ghost use Rattle.fields.specs.Fields.{split, fieldOf};
 ghost use Rattle.fields.specs.Decimal.{numeral};
-ghost use Rattle.records.specs.Records.{laid as isLaid, numberAt, sizeOf, settingsOf, colourOf, large as isLarge, bright as isBright, fault};
+ghost use Rattle.records.specs.Records.{numberAt, sizeOf, settingsOf, colourOf, large as isLarge, bright as isBright, fault};
 ghost use Rattle.records.specs.Judging.{channels};
 ghost use Rattle.records.specs.Reader.{Stands, Passed, Painted, Framed};
 
@@ -60,7 +62,7 @@ fn all_numbers(line: &[u8], count: usize) -> bool
 // Whether a line of so many fields is the word and n numbers.
 fn laid(line: &[u8], count: usize, word: &[u8], n: usize) -> bool
     requires { ⌜ (count ≡ length (split 9 (now line))) × (n ≤ 8) ⌝ }
-    ensures { λ r. ⌜ r ≡ isLaid (now (word .entry)) n (now (line .entry)) ⌝ }
+    ensures { λ r. ⌜ r ≡ isLaid numeral (now (word .entry)) n (now (line .entry)) ⌝ }
 {
     if !fields::same(fields::field(line, 0), word) {
         return false;

@@ -4,13 +4,14 @@ use mathlib.Core.List.{map}
 use Rattle.fields.specs.Words.{bytes}
 use Rattle.fields.specs.Decimal.{decimal, figured, numeral, numberOf}
 use Rattle.fields.specs.Fields.{fieldOf}
+use Rattle.fields.specs.LaidOut.{laid}
 use Rattle.rules.specs.Refusals.{badSize, badSettings}
 use Rattle.rules.specs.Window.{square, window}
 use Rattle.rules.specs.Light.{dark, rank, candidates, light}
 use Rattle.rules.specs.Transmission.{coarse, line, refine, sample, fit, refined}
 use Rattle.rules.specs.Picture.{recover, recover3, cleared}
 use Rattle.rules.specs.Buffers.{pixels, bytes as written, entries, clear}
-use Rattle.records.specs.Records.{laid, numberAt, sizeOf, settingsOf, colourOf, large, bright, fault}
+use Rattle.records.specs.Records.{numberAt, sizeOf, settingsOf, colourOf, large, bright, fault}
 use Rattle.records.specs.Judging.{painted}
 use Rattle.text.specs.Text.{verdict, outLine, outs, lightLine, badLine, shown, reply}
 use Rattle.text.specs.Cases.{table}

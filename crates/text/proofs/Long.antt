@@ -1,7 +1,7 @@
 -- A bounded buffer is enough: an input longer than `longest`, as no good text is, is refused, and so is its beginning, with the same number at the
 -- same line. Assumes nothing.
 use mathlib.Core.Path.{_≡_, refl, sym, ap, ap₂, subst, _∙_}
-use mathlib.Core.Bool.{Bool, true, false, cond, _&&_}
+use mathlib.Core.Bool.{Bool, true, false, cond}
 use mathlib.Core.List.{List, [], _∷_}
 use Prim.Native.Nat.{ℕ, zero, suc, _+_, _-_, _*_, _^_, _≤_, _<_}
 use native.Mathlib.Decide.{decLt}
@@ -10,24 +10,28 @@ use native.Mathlib.Omega.{arith}
 use lib.Dec.{ltb, leb, eqb}
 use lib.ListN.{length, getD, take, drop, replicate, length-drop}
 use lib.Seq.{take-nil, take-take, length-take-le}
-use borrow.Author.Tests.{lt-ltb, le-ltb, eq-eqb, eqb-true, leb-true}
+use borrow.Author.Tests.{lt-ltb, le-ltb, eq-eqb, leb-true}
 use Rattle.fields.specs.declared.Class.{Class}
 use Rattle.fields.specs.declared.Class.the-variants.{Digit, Lower, Tab, LineEnd, Other}
 use Rattle.fields.specs.declared.Line.{Line}
 use Rattle.fields.specs.declared.Line.the-variants.{Ends, Broken}
 use Rattle.fields.specs.Words.{bytes}
 use Rattle.fields.specs.Bytes.{classOf, counted, onClass, scan, lineOf}
-use Rattle.fields.specs.Fields.{joined, split, fieldOf, every, same}
+use Rattle.fields.specs.Every.{every}
+use Rattle.fields.specs.Fields.{joined, split, fieldOf, same}
 use Rattle.fields.specs.Decimal.{digit, led, digits, numeral, valueFrom, numberOf, valueIn}
 use Rattle.fields.proofs.Decimal.{numeral-most, numeral-led, numeral-digits}
-use Rattle.fields.proofs.Lines.{both, some-part, broken, Ended, ended}
+use Rattle.fields.proofs.Every.{both}
+use Rattle.fields.proofs.Lines.{some-part, broken, Ended, ended}
 use Rattle.records.specs.declared.Kind.{Kind}
 use Rattle.records.specs.declared.Kind.the-variants.{Size, Set, Px}
-use Rattle.records.specs.Records.{laid, numberAt, sizeOf, bright, fault}
+use Rattle.records.specs.Records.{numberAt, sizeOf, bright, fault}
 use Rattle.records.specs.Judging.{Verdict, bad, onward, judge, lineAt, cells}
 use Rattle.text.specs.Text.{verdict, replied, reply}
 use Rattle.records.proofs.Records.{size-unlaid, set-unlaid, px-unlaid, px-bright, px-good}
-use Rattle.records.proofs.Passing.{same-eq, judge-broken, judge-ended}
+use Rattle.fields.specs.LaidOut.{laid}
+use Rattle.fields.proofs.LaidOut.{laid-known}
+use Rattle.records.proofs.Passing.{judge-broken, judge-ended}
 use Rattle.records.proofs.Frames.{size-facts, Small, px-facts, few}
 use Rattle.text.proofs.Answering.{judge-more}
 
@@ -93,20 +97,19 @@ span-numbers (f ∷ fs) h =
     let b = span-numbers fs (p .1) in
     omega arith
 
-span-fields : (word : List ℕ) (n : ℕ) (fs : List (List ℕ)) → same (getD fs 0 []) word ≡ true → length fs ≡ suc n → every numeral (drop 1 fs) ≡ true
+span-fields : (word : List ℕ) (n : ℕ) (fs : List (List ℕ)) → getD fs 0 [] ≡ word → length fs ≡ suc n → every numeral (drop 1 fs) ≡ true
     → span fs ≤ suc (length word) + 7 * n
 span-fields word n [] s e h = absurd (let z : ⊥ = omega arith in z)
 span-fields word n (f ∷ fs) s e h =
-    let a : length f ≡ length word = ap length (same-eq f word s) in
+    let a : length f ≡ length word = ap length s in
     let b = span-numbers fs h in
     omega arith
 
-laid-short : (word : List ℕ) (n : ℕ) (line : List ℕ) → laid word n line ≡ true → length line ≤ length word + 7 * n
-unfolding laid fieldOf
+laid-short : (word : List ℕ) (n : ℕ) (line : List ℕ) → laid numeral word n line ≡ true → length line ≤ length word + 7 * n
+unfolding fieldOf
 laid-short word n line h =
-    let p = both (same (getD (split 9 line) 0 []) word && eqb (length (split 9 line)) (suc n)) (every numeral (drop 1 (split 9 line))) h in
-    let q = both (same (getD (split 9 line) 0 []) word) (eqb (length (split 9 line)) (suc n)) (p .0) in
-    let a = span-fields word n (split 9 line) (q .0) (eqb-true (length (split 9 line)) (suc n) (q .1)) (p .1) in
+    let l = laid-known numeral word line n h in
+    let a = span-fields word n (split 9 line) (l .first) (l .count) (l .others) in
     let b = span-split line in
     omega arith
 
@@ -114,10 +117,10 @@ laid-short word n line h =
 three-digits : (f : List ℕ) → numeral f ≡ true → valueIn (numberOf f) ≤ 255 → length f ≤ 3
 three-digits f h v = numeral-short 3 f (omega arith) h (let z : valueIn (numberOf f) < 1000 = omega arith in z)
 
-span-px : (fs : List (List ℕ)) → same (getD fs 0 []) (bytes "px") ≡ true → length fs ≡ 4 → every numeral (drop 1 fs) ≡ true
+span-px : (fs : List (List ℕ)) → getD fs 0 [] ≡ bytes "px" → length fs ≡ 4 → every numeral (drop 1 fs) ≡ true
     → valueIn (numberOf (getD fs 1 [])) ≤ 255 → valueIn (numberOf (getD fs 2 [])) ≤ 255 → valueIn (numberOf (getD fs 3 [])) ≤ 255 → span fs ≤ 15
 span-px (w ∷ r ∷ g ∷ b ∷ []) s e h x y z =
-    let l : length w ≡ 2 = ap length (same-eq w (bytes "px") s) in
+    let l : length w ≡ 2 = ap length s in
     let p = both (numeral r) (every numeral (g ∷ b ∷ [])) h in
     let q = both (numeral g) (every numeral (b ∷ [])) (p .1) in
     let o = both (numeral b) true (q .1) in
@@ -131,13 +134,11 @@ span-px (_ ∷ _ ∷ []) s e h x y z = absurd (let n : ⊥ = omega arith in n)
 span-px (_ ∷ _ ∷ _ ∷ []) s e h x y z = absurd (let n : ⊥ = omega arith in n)
 span-px (_ ∷ _ ∷ _ ∷ _ ∷ _ ∷ _) s e h x y z = absurd (let n : ⊥ = omega arith in n)
 
-px-short : (line : List ℕ) → laid (bytes "px") 3 line ≡ true → Small line → length line ≤ 14
-unfolding laid numberAt fieldOf
+px-short : (line : List ℕ) → laid numeral (bytes "px") 3 line ≡ true → Small line → length line ≤ 14
+unfolding numberAt fieldOf
 px-short line h v =
-    let fs : List (List ℕ) = split 9 line in
-    let p = both (same (getD fs 0 []) (bytes "px") && eqb (length fs) 4) (every numeral (drop 1 fs)) h in
-    let q = both (same (getD fs 0 []) (bytes "px")) (eqb (length fs) 4) (p .0) in
-    let a = span-px (split 9 line) (q .0) (eqb-true (length (split 9 line)) 4 (q .1)) (p .1) (v .red) (v .green) (v .blue) in
+    let l = laid-known numeral (bytes "px") line 3 h in
+    let a = span-px (split 9 line) (l .first) (l .count) (l .others) (v .red) (v .green) (v .blue) in
     let b = span-split line in
     omega arith
 
@@ -147,25 +148,25 @@ most Size = 19
 most Set = 46
 most Px = 15
 
-unlaid-long : (word : List ℕ) (n : ℕ) (line : List ℕ) → length word + 7 * n < length line → laid word n line ≡ false
-unlaid-long word n line h = go (laid word n line) refl
+unlaid-long : (word : List ℕ) (n : ℕ) (line : List ℕ) → length word + 7 * n < length line → laid numeral word n line ≡ false
+unlaid-long word n line h = go (laid numeral word n line) refl
   where
-    go : (t : Bool) → laid word n line ≡ t → t ≡ false
+    go : (t : Bool) → laid numeral word n line ≡ t → t ≡ false
     go false e = refl
     go true e = let a = laid-short word n line e in absurd (let z : ⊥ = omega arith in z)
 
 too-long : (k : Kind) (line : List ℕ) → most k ≤ length line → fault k line ≡ 9
 too-long Size line h = sym (size-unlaid line (unlaid-long (bytes "size") 2 line (omega arith)))
 too-long Set line h = sym (set-unlaid line (unlaid-long (bytes "set") 6 line (omega arith)))
-too-long Px line h = go (laid (bytes "px") 3 line) refl
+too-long Px line h = go (laid numeral (bytes "px") 3 line) refl
   where
-    at-most : (l : laid (bytes "px") 3 line ≡ true) (t : Bool) → bright line ≡ t → fault Px line ≡ 9
+    at-most : (l : laid numeral (bytes "px") 3 line ≡ true) (t : Bool) → bright line ≡ t → fault Px line ≡ 9
     at-most l true e = sym (px-bright line l e)
     at-most l false e =
         let a = px-short line l (px-facts line (sym (px-good line l e))) in
         absurd (let z : ⊥ = omega arith in z)
 
-    go : (t : Bool) → laid (bytes "px") 3 line ≡ t → fault Px line ≡ 9
+    go : (t : Bool) → laid numeral (bytes "px") 3 line ≡ t → fault Px line ≡ 9
     go false e = sym (px-unlaid line e)
     go true e = at-most e (bright line) refl
 

@@ -1,23 +1,28 @@
 -- `fields::part` meets its contract. The invariant: the part that is asked for is that many parts on in what is left of the text. Assumes nothing.
-use mathlib.Core.Path.{_≡_, refl, sym, ap, _∙_}
-use Prim.Native.Nat.{ℕ, _≤_, _<_, _-_}
+use mathlib.Core.Path.{_≡_, sym, ap, _∙_}
+use Prim.Native.Nat.{_≤_, _<_, _-_}
 use native.Mathlib.Omega.{arith}
 use native.Mathlib.Nat.{sub-zero}
 use lib.ListN.{length, drop}
 use borrow.Author.Needs.{needs}
-use Rattle.fields.specs.Fields.{fieldOf}
-use Rattle.fields.proofs.Split.{part-here, part-next, part-none}
+use Rattle.fields.specs.Fields.{split, fieldOf, begins, fieldAt}
+use Rattle.fields.specs.Parts.{on}
+use Rattle.fields.proofs.Split.{part-here, part-next, part-none, place-here, place-next, place-none}
 use Rattle.fields.proofs.part.Statement.{statement}
 use Rattle.fields.proofs.part.Tie as tie
 
 abbrev Inv-loop : tie.InvT-loop
-Inv-loop s sep n at₀ k₀ at k = (k ≤ n) × (at ≤ length s) × (fieldOf sep s n ≡ fieldOf sep (drop at s) (n - k))
+Inv-loop s sep n at₀ k₀ at k = (k ≤ n) × (at ≤ length s) × (fieldOf sep s n ≡ fieldOf sep (drop at s) (n - k)) × (fieldAt sep s n ≡ begins at (split sep (drop at s)) (n - k))
 
 abbrev μ-loop : tie.MeasureT-loop
 μ-loop s sep n at₀ k₀ at k = n - k
 
 loop-holds : tie.Need-loop-holds Inv-loop μ-loop
-loop-holds c = (search needs, search needs, ap (λ (m : ℕ). fieldOf (c .before .args .sep) (c .before .args .s .now) m) (sym (sub-zero (c .before .args .n))))
+unfolding fieldAt
+loop-holds c =
+    let a = c .before .args in
+    let n = sym (sub-zero (a .n)) in
+    (search needs, search needs, ap (fieldOf (a .sep) (a .s .now)) n, ap (begins 0 (split (a .sep) (a .s .now))) n)
 
 end-of-requires : tie.Need-end-of-requires Inv-loop μ-loop
 end-of-requires c κs = search needs
@@ -37,7 +42,7 @@ returns c =
     let a = c .before .before .before .before .before .before .args in
     record {
       field = sym (l .inv .2 ∙ part-none (a .sep) (a .s .now) (l .at) _ (c .before .before .end-of .ensures) (a .n) (l .k) (c .before .before .before .loop-test .taken) (c .before .if1 .taken));
-      part = record { from = 0; size = 0; within = omega arith; block = refl; offset = omega arith; elements = refl };
+      lies = ap (on (a .s .ptr)) (sym (l .inv .3 ∙ place-none (a .sep) (a .s .now) (l .at) _ (c .before .before .end-of .ensures) (a .n) (l .k) (c .before .before .before .loop-test .taken) (c .before .if1 .taken)));
     }
 
 add-at : tie.Need-add-at Inv-loop μ-loop
@@ -55,7 +60,12 @@ loop-again c =
     let a = c .before .before .before .before .before .args in
     let e = c .before .end-of .ensures in
     let h : c .before .end-of .result < length (a .s .now) = omega (arith, e .within, c .if1 .left) in
-    (omega arith, omega arith, l .inv .2 ∙ part-next (a .sep) (a .s .now) (l .at) _ e (a .n) (l .k) (c .before .before .loop-test .taken) h)
+    let t = c .before .before .loop-test .taken in (
+      omega arith,
+      omega arith,
+      l .inv .2 ∙ part-next (a .sep) (a .s .now) (l .at) _ e (a .n) (l .k) t h,
+      l .inv .3 ∙ place-next (a .sep) (a .s .now) (l .at) _ e (a .n) (l .k) t h,
+    )
 
 end-of-requires-2 : tie.Need-end-of-requires-2 Inv-loop μ-loop
 end-of-requires-2 c κs = search needs
@@ -75,14 +85,7 @@ returns-2 c =
     let a = c .before .before .before .before .before .args in
     record {
       field = part-here (a .sep) (a .s .now) (l .at) _ (c .before .end-of2 .ensures) (a .n) (l .k) (c .before .before .loop-test .left) ∙ sym (l .inv .2);
-      part = record {
-        from = l .at;
-        size = c .before .end-of2 .result - l .at;
-        within = omega (arith, c .before .end-of2 .ensures .from, c .before .end-of2 .ensures .within);
-        block = refl;
-        offset = omega arith;
-        elements = refl;
-      };
+      lies = ap (on (a .s .ptr)) (place-here (a .sep) (a .s .now) (l .at) _ (c .before .end-of2 .ensures) (a .n) (l .k) (c .before .before .loop-test .left) ∙ sym (l .inv .3));
     }
 
 pub part-spec : {M : Type 1} → statement M

@@ -4,8 +4,9 @@ use Prim.Native.Nat.{_≤_, _<_, _-_, _^_}
 use native.Mathlib.Omega.{arith}
 use lib.ListN.{length, drop}
 use Rattle.fields.specs.declared.Number.the-variants.{Is}
-use Rattle.fields.specs.Decimal.{digits, valueFrom}
-use Rattle.fields.proofs.Numerals.{value-step, digits-step, digits-low, digits-high, digits-end, value-end, ten-more, ten-most, bad-empty, bad-long, bad-digits, good}
+use Rattle.fields.specs.Decimal.{digit, digits, valueFrom}
+use Rattle.fields.proofs.Every.{every-end}
+use Rattle.fields.proofs.Numerals.{value-step, digits-step, digits-low, digits-high, value-end, ten-more, ten-most, bad-empty, bad-long, bad-digits, good}
 use Rattle.fields.proofs.read_digits.Statement.{statement}
 use Rattle.fields.proofs.read_digits.Tie as tie
 
@@ -91,7 +92,7 @@ returns-5 c =
     let l = c .before .loop in
     let s = c .before .before .before .before .args .s .now in
     ap Is (sym (l .inv .2 ∙ value-end s (l .i) (l .v) (c .loop-test .left)))
-    ∙ good s (l .inv .4) (l .inv .5) (l .inv .1 ∙ digits-end s (l .i) (c .loop-test .left))
+    ∙ good s (l .inv .4) (l .inv .5) (l .inv .1 ∙ every-end digit s (l .i) (c .loop-test .left))
 
 pub read-digits-spec : {M : Type 1} → statement M
 read-digits-spec =

@@ -4,7 +4,9 @@ use mathlib.Core.Bool.{true}
 use borrow.Author.Tests.{not-true, not-false}
 use Rattle.fields.specs.Words.{bytes}
 use Rattle.rules.specs.Refusals.{badSize}
-use Rattle.records.specs.Records.{laid, sizeOf, large}
+use Rattle.records.specs.Records.{sizeOf, large}
+use Rattle.fields.specs.Decimal.{numeral}
+use Rattle.fields.specs.LaidOut.{laid}
 use Rattle.records.proofs.Records.{size-unlaid, size-wrong, size-large, size-good}
 use borrow.Author.Needs.{needs}
 use Rattle.records.proofs.fault_of_size.Statement.{statement}
@@ -17,7 +19,7 @@ laid-requires : tie.Need-laid-requires
 laid-requires c κs = search needs
 
 -- what the tests tell of the line
-laid-told : (c : tie.Else1) → laid (bytes "size") 2 (c .before .before .before .before .args .line .now) ≡ true
+laid-told : (c : tie.Else1) → laid numeral (bytes "size") 2 (c .before .before .before .before .args .line .now) ≡ true
 laid-told c = sym (c .before .laid .ensures) ∙ not-false _ (c .if1 .left)
 
 size-told : (c : tie.After-wrong-size) → badSize (sizeOf (c .before .before .before .before .before .before .args .line .now)) ≡ c .wrong-size .result

@@ -4,7 +4,8 @@ use mathlib.Core.List.{List}
 use Prim.Native.Nat.{ℕ}
 use borrow.Author.Tests.{not-true, not-false}
 use Rattle.fields.specs.Fields.{fieldOf, same}
-use Rattle.records.proofs.Records.{laid-word, laid-count, laid-numbers}
+use Rattle.fields.specs.Decimal.{numeral}
+use Rattle.fields.proofs.LaidOut.{laid-word, laid-count, laid-fields}
 use borrow.Author.Needs.{needs}
 use Rattle.records.proofs.laid.Statement.{statement}
 use Rattle.records.proofs.laid.Tie as tie
@@ -22,7 +23,7 @@ told c = ap (λ (f : List ℕ). same f (c .before .before .before .before .args 
 returns : tie.Need-returns
 returns c =
     let a = c .before .before .before .before .before .args in
-    laid-word (a .word .now) (a .line .now) (a .n) (told (c .before) ∙ not-true _ (c .if1 .taken))
+    laid-word numeral (a .word .now) (a .line .now) (a .n) (told (c .before) ∙ not-true _ (c .if1 .taken))
 
 add-if2 : tie.Need-add-if2
 add-if2 c = search needs
@@ -30,7 +31,7 @@ add-if2 c = search needs
 returns-2 : tie.Need-returns-2
 returns-2 c =
     let a = c .before .before .before .before .before .before .args in
-    laid-count (a .word .now) (a .line .now) (a .n) (told (c .before .before) ∙ not-false _ (c .before .if1 .left))
+    laid-count numeral (a .word .now) (a .line .now) (a .n) (told (c .before .before) ∙ not-false _ (c .before .if1 .left))
     (λ e. c .if2 .taken (c .before .before .before .before .before .before .pre .0 ∙ e))
 
 all-numbers-requires : tie.Need-all-numbers-requires
@@ -40,7 +41,7 @@ returns-3 : tie.Need-returns-3
 returns-3 c =
     let a = c .before .before .before .before .before .before .before .args in
     c .all-numbers .ensures
-    ∙ laid-numbers (a .word .now) (a .line .now) (a .n) (told (c .before .before .before) ∙ not-false _ (c .before .before .if1 .left))
+    ∙ laid-fields numeral (a .word .now) (a .line .now) (a .n) (told (c .before .before .before) ∙ not-false _ (c .before .before .if1 .left))
     (sym (c .before .before .before .before .before .before .before .pre .0) ∙ c .before .if2 .left)
 
 pub laid-spec : {M : Type 1} → statement M
