@@ -7,7 +7,7 @@ use native.Mathlib.Nat.{add-assoc}
 use native.Mathlib.Decide.{decLt}
 use native.Mathlib.Omega.{arith}
 use lib.Dec.{eqb}
-use lib.ListN.{length, getD, length-append}
+use lib.ListN.{length, getD, length-append, List·getD-eq-default}
 use borrow.Author.Tests.{eqb-true}
 use Rattle.fields.specs.Fields.{consHead, joined, split, fieldOf, begins, fieldAt}
 use Rattle.fields.specs.Parts.{on}
@@ -75,16 +75,16 @@ pub field-stands : (sep : ℕ) (s : List ℕ) (n : ℕ) → Stands (fieldOf sep 
 unfolding fieldOf fieldAt
 field-stands sep s n = go (decLt n (length (split sep s)))
   where
-    none : (at : ℕ) (fs : List (List ℕ)) (n : ℕ) → length fs ≤ n → (getD fs n [] ≡ []) × (begins at fs n ≡ 0)
-    none at [] n h = (refl, refl)
+    none : (at : ℕ) (fs : List (List ℕ)) (n : ℕ) → length fs ≤ n → begins at fs n ≡ 0
+    none at [] n h = refl
     none at (f ∷ fs) zero h = absurd (let z : ⊥ = omega arith in z)
     none at (f ∷ fs) (suc n) h = none (at + length f + 1) fs n (omega arith)
 
     go : Dec (n < length (split sep s)) → Stands (getD (split sep s) n []) s (begins 0 (split sep s) n)
     go (yes h) = subst (λ (l : List ℕ). Stands (getD (split sep s) n []) l (begins 0 (split sep s) n)) (join-split sep s) (join-stands sep (split sep s) n h)
     go (no h) =
-        let e = none 0 (split sep s) n (omega arith) in
-        record { before = []; after = s; from = e .1; all = sym (ap (λ (l : List ℕ). l ++ s) (e .0)) }
+        let past : length (split sep s) ≤ n = omega arith in
+        record { before = []; after = s; from = none 0 (split sep s) n past; all = sym (ap (λ (l : List ℕ). l ++ s) (List·getD-eq-default (split sep s) [] past)) }
 
 -- what stands in a part stands in the whole
 pub stands-in : {bytes part whole : List ℕ} {i j : ℕ} → Stands bytes part i → Stands part whole j → Stands bytes whole (i + j)

@@ -43,7 +43,7 @@ large z = ltb 24 (z .w) || ltb 24 (z .h)
 unfoldable pub bright : List ℕ → Bool
 bright line = ltb 255 (numberAt line 1) || ltb 255 (numberAt line 2) || ltb 255 (numberAt line 3)
 
--- 9: the line is not the word and its numbers
+-- 9: the line is not the word and its numbers, or a number of a `px` is too high
 unfoldable pub fault : Kind → List ℕ → ℕ
 fault kindSize line = first ((9, not (laid numeral (bytes "size") 2 line)) ∷ (1, badSize (sizeOf line)) ∷ (10, large (sizeOf line)) ∷ [])
 fault kindSet line = first ((9, not (laid numeral (bytes "set") 6 line)) ∷ (2, badSettings (settingsOf line)) ∷ [])

@@ -1,5 +1,5 @@
 -- What answers, test by test. Assumes nothing.
-use mathlib.Core.Path.{_≡_, sym, ap, ap₂, _∙_}
+use mathlib.Core.Path.{_≡_, sym, ap, ap₂}
 use mathlib.Core.Bool.{true, false}
 use mathlib.Core.List.{List}
 use Prim.Native.Nat.{ℕ}
@@ -33,7 +33,7 @@ module _ (field house name : List ℕ) where
 -- the part, by what answers
 pub answers : (field house : RefT (List ℕ)) (name : List ℕ) (r : RefT (List ℕ)) (s : Source) → sourceOf (field .now) (house .now) name ≡ s
     → r .now ≡ bytesOf (field .now) (house .now) s → r .ptr ≡ memoryOf field house s → Setting field house name r
-answers field house name r s e b m = record { bytes = b ∙ ap (bytesOf (field .now) (house .now)) (sym e); memory = m ∙ ap (memoryOf field house) (sym e) }
+answers field house name r s e b m = record { bytes = cc; memory = cc }
 
 -- the number, by what answers
 pub numbers : (field house name : List ℕ) (s : Source) → sourceOf field house name ≡ s → number s ≡ refusalOf field house name

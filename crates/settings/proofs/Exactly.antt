@@ -12,7 +12,7 @@ use Rattle.settings.specs.declared.First.{First}
 use Rattle.settings.specs.declared.First.the-variants.{Line, None}
 use Rattle.settings.specs.declared.Source.{Source}
 use Rattle.settings.specs.declared.Source.the-variants.{Field, House, Refused}
-use Rattle.settings.specs.Texts.{word, good, had, firstWith}
+use Rattle.settings.specs.Texts.{word, good, had, firstWith, valueIn}
 use Rattle.settings.specs.Promise.{over, sourceOf, testsSetting, number, bytesOf, refusalOf, Setting}
 use Rattle.settings.proofs.Found.{value-some}
 
@@ -59,13 +59,13 @@ pub record EmptyExactly (part : List ℕ) (no : ℕ) : Type 0 where
   pub empty : 0 < no → length part ≡ 0
   pub refused : length part ≡ 0 → 0 < no
 
+-- a part with a byte, of a call that is not refused
+full : (part : List ℕ) → 0 < length part → EmptyExactly part 0
+full part h = record { empty = λ l. absurd (let z : ⊥ = omega arith in z); refused = λ e. absurd (let z : ⊥ = omega arith in z) }
+
 answered : (field house name : List ℕ) (s : Source) → Came field house name s → EmptyExactly (bytesOf field house s) (number s)
-answered field house name (Field k) (ofField g e) =
-    let some = value-some field name g k e in
-    record { empty = λ h. absurd (let z : ⊥ = omega arith in z); refused = λ h. absurd (let z : ⊥ = omega arith in z) }
-answered field house name (House k) (ofHouse g n e) =
-    let some = value-some house name g k e in
-    record { empty = λ h. absurd (let z : ⊥ = omega arith in z); refused = λ h. absurd (let z : ⊥ = omega arith in z) }
+answered field house name (Field k) (ofField g e) = full (valueIn field k) (value-some field name g k e)
+answered field house name (House k) (ofHouse g n e) = full (valueIn house k) (value-some house name g k e)
 answered field house name (Refused n) (refused h) = record { empty = λ l. refl; refused = λ l. h }
 
 -- from the promises of the two calls: r is what `setting` returns, n what `setting_refusal` says

@@ -1,10 +1,10 @@
 -- The answer of two written texts is that of the names and values of the field followed by those of the house: the first with the name. Assumes nothing.
 use mathlib.Core.Path.{_≡_, refl, sym, ap, ap₂, _∙_}
 use mathlib.Core.Bool.{Bool, true, false, cond}
-use mathlib.Core.List.{List, [], _∷_, _++_, append-nil}
+use mathlib.Core.List.{List, [], _∷_, _++_, append-nil, head-eq-of-cons-eq, tail-eq-of-cons-eq}
 use Prim.Native.Nat.{ℕ, suc, _+_}
 use native.Mathlib.Omega.{arith}
-use lib.ListN.{getD}
+use lib.ListN.{length, getD}
 use denote.Ref.{RefT}
 use Rattle.fields.specs.Words.{bytes}
 use Rattle.fields.specs.Fields.{split, fieldOf, same}
@@ -16,6 +16,7 @@ use Rattle.settings.specs.Promise.{over, sourceOf, bytesOf, Setting}
 use Rattle.settings.specs.Written.{Pair, row, written, words, lookup}
 use Rattle.settings.proofs.Texts.{seek-first}
 use Rattle.settings.proofs.Answers.{name-good}
+use Rattle.settings.proofs.Found.{found-by}
 use Rattle.settings.proofs.Written.{row-fields, row-line, first-words, written-good}
 
 -- ---- the first with the name, among the lines and among the pairs
@@ -37,6 +38,9 @@ module _ (name : List ℕ) where
     unfolding fieldOf
     row-value = ap (λ (fs : List (List ℕ)). getD fs 2 []) (row-fields p (w .0 .0) (w .0 .1))
 
+    row-test : (l : List ℕ) (t : Bool) → row p ≡ l → same (fieldOf 9 l 1) name ≡ t → same (p .0) name ≡ t
+    row-test l t r e = ap (λ (n : List ℕ). same n name) (sym row-name ∙ ap (λ (x : List ℕ). fieldOf 9 x 1) r) ∙ e
+
     first-row : (j : ℕ) → seek j (split 10 (written (p ∷ ps))) name ≡ cond (same (p .0) name) (Line j) (seek (suc j) (split 10 (written ps)) name)
     first-row j =
         ap (λ (ls : List (List ℕ)). seek j ls name) lines
@@ -54,31 +58,25 @@ module _ (name : List ℕ) where
       go true q on = absurd (let z : _≡_ {A = ℕ} 0 1 = cc in let y : ⊥ = omega arith in y)
       go false q on = on q qs
 
-  -- the line that is found, counted from j on, has the value of the first pair with the name
-  record Valued (ps : List Pair) (j k : ℕ) : Type 0 where
-    d : ℕ
-    number : k ≡ j + d
-    value : (qs : List Pair) → fieldOf 9 (getD (split 10 (written ps)) d []) 2 ≡ lookup (ps ++ qs) name
-
-  valued : (ps : List Pair) → words ps ≡ true → (j k : ℕ) → seek j (split 10 (written ps)) name ≡ Line k → Valued ps j k
-  valued [] h j k e = absurd (let z : _≡_ {A = ℕ} 0 1 = cc in let y : ⊥ = omega arith in y)
-  valued (p ∷ ps) h j k e = go (same (p .0) name) refl (sym (first-row p ps h j) ∙ e) (valued ps (w p ps h .1) (suc j) k)
-    where
-      at : (d : ℕ) → fieldOf 9 (getD (split 10 (written (p ∷ ps))) d []) 2 ≡ fieldOf 9 (getD (row p ∷ split 10 (written ps)) d []) 2
-      at d = ap (λ (ls : List (List ℕ)). fieldOf 9 (getD ls d []) 2) (lines p ps h)
-
-      go : (t : Bool) → same (p .0) name ≡ t → cond t (Line j) (seek (suc j) (split 10 (written ps)) name) ≡ Line k
-          → (seek (suc j) (split 10 (written ps)) name ≡ Line k → Valued ps (suc j) k) → Valued (p ∷ ps) j k
-      go true t q on = let n : k ≡ j = cc in record { d = 0; number = omega arith; value = λ qs. at 0 ∙ row-value p ps h ∙ rw t }
-      go false t q on =
-          let v = on q in
-          record { d = suc (v .d); number = omega (arith, v .number); value = λ qs. at (suc (v .d)) ∙ v .value qs ∙ rw t }
+  -- the line that is found has the value of the first pair with the name
+  abbrev Valued : List (List ℕ) → ℕ → Type 0
+  Valued ls d = (ps : List Pair) → words ps ≡ true → split 10 (written ps) ≡ ls → (qs : List Pair) → fieldOf 9 (getD ls d []) 2 ≡ lookup (ps ++ qs) name
 
   pub line-value : (ps : List Pair) → words ps ≡ true → (k : ℕ) → firstWith (written ps) name ≡ Line k → (qs : List Pair) → valueIn (written ps) k ≡ lookup (ps ++ qs) name
-  unfolding firstWith fieldOf
-  line-value ps h k e qs =
-      let v = valued ps h 0 k e in
-      ap (λ (i : ℕ). getD (split 9 (getD (split 10 (written ps)) i [])) 2 []) (let z : k ≡ v .d = omega (arith, v .number) in z) ∙ v .value qs
+  unfolding fieldOf
+  line-value ps h k e = found-by name Valued here on (written ps) k e ps h refl
+    where
+      here : (l m : List ℕ) (ls : List (List ℕ)) → same (fieldOf 9 l 1) name ≡ true → Valued (l ∷ m ∷ ls) 0
+      here l m ls t [] h s qs = absurd (let n = ap length s in let z : ⊥ = omega arith in z)
+      here l m ls t (p ∷ ps) h s qs =
+          let r : row p ≡ l = head-eq-of-cons-eq (sym (lines p ps h) ∙ s) in
+          ap (λ (x : List ℕ). fieldOf 9 x 2) (sym r) ∙ row-value p ps h ∙ rw (row-test p ps h l true r t)
+
+      on : (l m : List ℕ) (ls : List (List ℕ)) (d : ℕ) → same (fieldOf 9 l 1) name ≡ false → Valued (m ∷ ls) d → Valued (l ∷ m ∷ ls) (suc d)
+      on l m ls d t next [] h s qs = absurd (let n = ap length s in let z : ⊥ = omega arith in z)
+      on l m ls d t next (p ∷ ps) h s qs =
+          let q = sym (lines p ps h) ∙ s in
+          next ps (w p ps h .1) (tail-eq-of-cons-eq q) qs ∙ rw (row-test p ps h l false (head-eq-of-cons-eq q) t)
 
   pub line-none : (ps : List Pair) → words ps ≡ true → firstWith (written ps) name ≡ None → (qs : List Pair) → lookup (ps ++ qs) name ≡ lookup qs name
   unfolding firstWith

@@ -1,11 +1,13 @@
 -- Names and values: which classes are letters, the tests in their order, and what is known of a word. Assumes nothing.
-use mathlib.Core.Path.{_≡_, refl}
+use mathlib.Core.Path.{_≡_, refl, _∙_}
 use mathlib.Core.Bool.{true, false}
 use mathlib.Core.List.{List, [], _∷_}
 use mathlib.Core.Logic.{⊎-elim}
 use Prim.Native.Nat.{ℕ, _≤_, _<_}
 use native.Mathlib.Omega.{arith}
+use lib.Dec.{ltb}
 use lib.ListN.{length}
+use borrow.Author.Tests.{lt-ltb, le-ltb}
 use types.Run.{OneOf}
 use denote.Enum.Declared.{tagOf}
 use Rattle.fields.specs.declared.Class.{Class}
@@ -17,6 +19,13 @@ use Rattle.settings.specs.Texts.{inWord, letter, word}
 
 -- ---- the first two classes are the letters, the other three are not
 
+by-tag : (k : Class) → inWord k ≡ ltb (tagOf the-type k) 2
+by-tag Digit = refl
+by-tag Lower = refl
+by-tag Tab = refl
+by-tag LineEnd = refl
+by-tag Other = refl
+
 low : (t : ℕ) → OneOf (0 ∷ 1 ∷ []) t → t < 2
 low t = ⊎-elim (λ (e : t ≡ 0). let z : t < 2 = omega arith in z) (λ (e : t ≡ 1). let z : t < 2 = omega arith in z)
 
@@ -25,19 +34,12 @@ high t =
     ⊎-elim (λ (e : t ≡ 2). let z : 2 ≤ t = omega arith in z)
     (⊎-elim (λ (e : t ≡ 3). let z : 2 ≤ t = omega arith in z) (λ (e : t ≡ 4). let z : 2 ≤ t = omega arith in z))
 
-pub is-letter : (k : Class) → OneOf (0 ∷ 1 ∷ []) (tagOf the-type k) → inWord k ≡ true
-is-letter Digit h = refl
-is-letter Lower h = refl
-is-letter Tab h = absurd (let l = low 2 h in let z : ⊥ = omega arith in z)
-is-letter LineEnd h = absurd (let l = low 3 h in let z : ⊥ = omega arith in z)
-is-letter Other h = absurd (let l = low 4 h in let z : ⊥ = omega arith in z)
+module _ (k : Class) where
+  pub is-letter : OneOf (0 ∷ 1 ∷ []) (tagOf the-type k) → inWord k ≡ true
+  is-letter h = by-tag k ∙ lt-ltb (tagOf the-type k) 2 (low (tagOf the-type k) h)
 
-pub no-letter : (k : Class) → OneOf (2 ∷ 3 ∷ 4 ∷ []) (tagOf the-type k) → inWord k ≡ false
-no-letter Digit h = absurd (let l = high 0 h in let z : ⊥ = omega arith in z)
-no-letter Lower h = absurd (let l = high 1 h in let z : ⊥ = omega arith in z)
-no-letter Tab h = refl
-no-letter LineEnd h = refl
-no-letter Other h = refl
+  pub no-letter : OneOf (2 ∷ 3 ∷ 4 ∷ []) (tagOf the-type k) → inWord k ≡ false
+  no-letter h = by-tag k ∙ le-ltb (tagOf the-type k) 2 (high (tagOf the-type k) h)
 
 -- ---- the tests in their order
 
