@@ -6,10 +6,11 @@ ghost use lib.ListN.{length};
 ghost use Rattle.rules.specs.Shape.{described, room};
 ghost use Rattle.rules.specs.Transmission.{refined};
 ghost use Rattle.rules.specs.Picture.{cleared};
-ghost use Rattle.rules.specs.Buffers.{pixels, bytes, values, entries, near, patch, reach, clear as cleared-state, replace as replaced-state};
+ghost use Rattle.rules.specs.Buffers.{pixels, bytes, values, entries, near, patch, reach};
 ghost use Rattle.rules.specs.Box.{Covers};
 ghost use Rattle.rules.specs.Good.{GoodRect};
-ghost use Rattle.rules.specs.Promise.{wiped, lent};
+ghost use Rattle.rules.specs.Setup.{handed};
+ghost use Rattle.rules.specs.Promise.{wiped, lentOf, afterClear, afterReplace};
 ghost use Rattle.planes.specs.Stage.{Given};
 ghost use Rattle.writer.specs.Write.{Target};
 ghost use Rattle.clearing.specs.Call.{Loan, grownRect};
@@ -40,8 +41,10 @@ fn refresh(
     requires { ⌜ Given (described z) (described b) top left k a (now frame) ⌝ }
     requires { ⌜ Target (described z) (described b) top left o (now map) (now picture) ⌝ }
     requires { ⌜ Covers (described z) (described b) top left (reach k) (near 0 o) × (room (described z) ≤ length (now work)) ⌝ }
-    ensures map { λ _. ⌜ now (map .exit) ≡ entries (described z) (patch (near 0 o) (refined (described z) k a (pixels (described z) (now (frame .entry)))) (values (described z) (now (map .entry)))) ⌝ }
-    ensures picture { λ _. ⌜ now (picture .exit) ≡ bytes (described z) (patch (near 0 o) (cleared (described z) k a (pixels (described z) (now (frame .entry)))) (pixels (described z) (now (picture .entry)))) ⌝ }
+    ensures map { λ _. ⌜ now (map .exit) ≡ entries (described z) (patch (near 0 o)
+        (refined (described z) k a (pixels (described z) (now (frame .entry)))) (values (described z) (now (map .entry)))) ⌝ }
+    ensures picture { λ _. ⌜ now (picture .exit) ≡ bytes (described z) (patch (near 0 o)
+        (cleared (described z) k a (pixels (described z) (now (frame .entry)))) (pixels (described z) (now (picture .entry)))) ⌝ }
     ensures work { λ _. ⌜ now (work .exit) ≡ wiped (described z) (now (work .entry)) ⌝ }
 {
     prepare(work, frame, z, b, top, left, k, a);
@@ -62,7 +65,8 @@ pub fn clear_whole(
 )
     requires { ⌜ Given (described z) (described z) 0 0 k a (now frame) ⌝ }
     requires { ⌜ Loan (described z) (now map) (now picture) (now work) ⌝ }
-    ensures { λ _. ⌜ record { frame = now (frame .entry); map = now (map .exit); picture = now (picture .exit); work = now (work .exit) } ≡ lent (cleared-state (described z) k a (now (frame .entry))) (wiped (described z) (now (work .entry))) ⌝ }
+    ensures { λ _. ⌜ lentOf (now (frame .entry)) (now (map .exit)) (now (picture .exit)) (now (work .exit))
+        ≡ afterClear (handed z k a) (lentOf (now (frame .entry)) (now (map .entry)) (now (picture .entry)) (now (work .entry))) ⌝ }
 {
     let o = Rect {
         x: 0,
@@ -120,7 +124,9 @@ pub fn replace_whole(
     requires { ⌜ Given (described z) (described z) 0 0 k a (now frame) ⌝ }
     requires { ⌜ Loan (described z) (now map) (now picture) (now work) ⌝ }
     requires { ⌜ GoodRect (described z) c × (length (now new) ≡ 3 * (c .w * c .h)) ⌝ }
-    ensures { λ _. ⌜ record { frame = now (frame .exit); map = now (map .exit); picture = now (picture .exit); work = now (work .exit) } ≡ lent (replaced-state (described z) k a c (now (new .entry)) (record { frame = now (frame .entry); map = now (map .entry); picture = now (picture .entry) })) (wiped (described z) (now (work .entry))) ⌝ }
+    ensures { λ _. ⌜ lentOf (now (frame .exit)) (now (map .exit)) (now (picture .exit)) (now (work .exit))
+        ≡ afterReplace (handed z k a) c (now (new .entry))
+        (lentOf (now (frame .entry)) (now (map .entry)) (now (picture .entry)) (now (work .entry))) ⌝ }
 {
     paste(frame, z, c, new);
     let q = k.s + 2 * k.r;

@@ -5,8 +5,7 @@ use Prim.Native.Nat.{ℕ, _≤_}
 use lib.ListN.{length, getD}
 use Rattle.rules.specs.declared.Size.{Size}
 use Rattle.rules.specs.Refusals.{badMap}
-use Rattle.rules.proofs.Good.{neither, map-good}
-use Rattle.judge.proofs.Accepted.{entries-good}
+use Rattle.rules.proofs.Good.{neither, map-good, entries-good}
 use Rattle.depth.specs.Promise.{refuseDepths}
 use Rattle.depth.proofs.Exactly.{depths-exact}
 

@@ -8,8 +8,7 @@ use lib.ListN.{length, getD}
 use Rattle.rules.specs.declared.Size.{Size}
 use Rattle.rules.specs.declared.Answer.{Answer}
 use Rattle.rules.specs.declared.Answer.the-variants as answer
-use Rattle.rules.proofs.Exactly.{done-free}
-use Rattle.judge.proofs.Accepted.{made}
+use Rattle.rules.proofs.Answers.{done-free, made}
 use Rattle.depth.specs.Table.{depthOf}
 use Rattle.depth.specs.Promise.{refuseDepths, Depths}
 use Rattle.depth.proofs.Meaning.{falls, Bounds, bounds}

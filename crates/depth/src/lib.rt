@@ -8,7 +8,7 @@ ghost use lib.ListN.{length, getD};
 ghost use Rattle.depth.specs.Table.{thresholds, depthOf, everyDepth};
 ghost use Rattle.depth.specs.Promise.{refuseDepths, Depths};
 use judge::either;
-use judge::given;
+use judge::first_of;
 use judge::wrong_entries;
 use judge::wrong_map;
 use judge::wrong_size;
@@ -86,7 +86,8 @@ fn refuse(z: Size, map: &[u16], out: usize) -> u8
         return 1;
     }
     let lengths = either(wrong_map(z, map.len()), wrong_map(z, out));
-    given(lengths, 4, given(wrong_entries(map), 8, 0))
+    let entries = wrong_entries(map);
+    first_of(lengths, 4, entries, 8, false, 0, false, 0)
 }
 
 // Depth of one entry, for every t.

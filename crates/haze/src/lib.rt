@@ -1,6 +1,7 @@
 // The public calls. None asks anything of its caller: each promises, for every input, what it answers and what stands in the lent memory afterwards.
 ghost use Prim.Native.Nat.{ℕ};
-ghost use Rattle.rules.specs.Promise.{Lights, Clears, Replaces, Hazes, Bands};
+ghost use Rattle.rules.specs.Setup.{handed};
+ghost use Rattle.rules.specs.Promise.{lentOf, Lights, Clears, Replaces, Hazes, Bands};
 use rules::Answer;
 use rules::Band;
 use rules::Found;
@@ -13,7 +14,7 @@ use rules::Size;
 pub fn light(z: Size, k: Settings, frame: &[u8], work: &mut [i64]) -> Found
     ensures { λ r. ⌜ Lights z k (now (frame .entry)) (now (work .entry)) r (now (work .exit)) ⌝ }
 {
-    let n = judge::refuse_light(z, k, frame.len(), work.len());
+    let n = refusals::refuse_light(z, k, frame.len(), work.len());
     if n != 0 {
         return Found::Refused(n);
     }
@@ -30,9 +31,11 @@ pub fn clear(
     picture: &mut [u8],
     work: &mut [i64],
 ) -> Answer
-    ensures { λ r. ⌜ Clears z k a (record { frame = now (frame .entry); map = now (map .entry); picture = now (picture .entry); work = now (work .entry) }) r (record { frame = now (frame .entry); map = now (map .exit); picture = now (picture .exit); work = now (work .exit) }) ⌝ }
+    ensures { λ r. ⌜ Clears (handed z k a)
+        (lentOf (now (frame .entry)) (now (map .entry)) (now (picture .entry)) (now (work .entry))) r
+        (lentOf (now (frame .entry)) (now (map .exit)) (now (picture .exit)) (now (work .exit))) ⌝ }
 {
-    let n = judge::refuse_clear(z, k, a, frame.len(), map.len(), picture.len(), work.len());
+    let n = refusals::refuse_clear(z, k, a, frame.len(), map.len(), picture.len(), work.len());
     if n != 0 {
         return Answer::Refused(n);
     }
@@ -52,9 +55,11 @@ pub fn replace(
     picture: &mut [u8],
     work: &mut [i64],
 ) -> Answer
-    ensures { λ r. ⌜ Replaces z k a c (now (new .entry)) (record { frame = now (frame .entry); map = now (map .entry); picture = now (picture .entry); work = now (work .entry) }) r (record { frame = now (frame .exit); map = now (map .exit); picture = now (picture .exit); work = now (work .exit) }) ⌝ }
+    ensures { λ r. ⌜ Replaces (handed z k a) c (now (new .entry))
+        (lentOf (now (frame .entry)) (now (map .entry)) (now (picture .entry)) (now (work .entry))) r
+        (lentOf (now (frame .exit)) (now (map .exit)) (now (picture .exit)) (now (work .exit))) ⌝ }
 {
-    let n = judge::refuse_replace(
+    let n = refusals::refuse_replace(
         z,
         k,
         a,
@@ -76,7 +81,7 @@ pub fn replace(
 pub fn haze(z: Size, a: Rgb, clean: &[u8], map: &[u16], hazed: &mut [u8]) -> Answer
     ensures { λ r. ⌜ Hazes z a (now (clean .entry)) (now (map .entry)) (now (hazed .entry)) r (now (hazed .exit)) ⌝ }
 {
-    let n = judge::refuse_haze(z, a, clean.len(), map, hazed.len());
+    let n = refusals::refuse_haze(z, a, clean.len(), map, hazed.len());
     if n != 0 {
         return Answer::Refused(n);
     }
@@ -88,7 +93,7 @@ pub fn haze(z: Size, a: Rgb, clean: &[u8], map: &[u16], hazed: &mut [u8]) -> Ans
 pub fn band(z: Size, map: &[u16], from: usize, to: usize) -> Band
     ensures { λ r. ⌜ Bands z (now (map .entry)) from to r ⌝ }
 {
-    let n = judge::refuse_band(z, map, from, to);
+    let n = refusals::refuse_band(z, map, from, to);
     if n != 0 {
         return Band::Refused(n);
     }

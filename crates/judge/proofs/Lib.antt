@@ -1,3 +1,2 @@
--- The judge's laws, and what its callers know.
+-- The judge's laws.
 pub mod Laws
-pub mod Accepted

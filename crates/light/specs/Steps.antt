@@ -13,7 +13,6 @@ use Rattle.rules.specs.declared.Rgb.{Rgb}
 use Rattle.rules.specs.Window.{from, total}
 use Rattle.rules.specs.Light.{darkest, dark, at, guide, count, keep, brightest, light}
 use Rattle.rules.specs.Buffers.{pixelAt, pixels}
-use Rattle.rules.specs.Good.{GoodSize, GoodSettings}
 use Rattle.rules.specs.Promise.{wiped}
 use Rattle.planes.specs.Plane.{SameFrom}
 use Rattle.light.specs.declared.Cut.{Cut}
@@ -71,13 +70,6 @@ pub record Chosen (frame : List ℕ) (work : List ℤ) (n : ℕ) (c : Cut) (r : 
   pub best : r ≡ brightest (λ p. guide (pixelAt frame p)) (keep (admitted (value work) c) (upto n))
 
 -- ---- the whole
-
--- nothing stands against a call
-pub record Ready (z : Size) (k : Settings) (frame work : ℕ) : Type 0 where
-  pub size : GoodSize (described z)
-  pub settings : GoodSettings k
-  pub bytes : frame ≡ 3 * (z .w * z .h)
-  pub space : room (described z) ≤ work
 
 -- the dark values of the pixels, in row order at the work area's start; all past the call's own part is as it was
 pub record DarkPlane (z : Size) (k : Settings) (frame : List ℕ) (w v : List ℤ) : Type 0 where

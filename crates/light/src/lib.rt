@@ -7,7 +7,8 @@ ghost use lib.ListN.{length, getD};
 ghost use lib.IntN.{pos};
 ghost use Rattle.rules.specs.Light.{darkest, lifted};
 ghost use Rattle.rules.specs.Buffers.{pixelAt};
-ghost use Rattle.light.specs.Steps.{value, ByteEntries, Filled, Tallied, reach, CutAt, Chosen, Ready, DarkPlane, Finds};
+ghost use Rattle.rules.specs.Good.{AcceptedLight};
+ghost use Rattle.light.specs.Steps.{value, ByteEntries, Filled, Tallied, reach, CutAt, Chosen, DarkPlane, Finds};
 use rules::Rgb;
 use rules::Settings;
 use rules::Size;
@@ -181,7 +182,7 @@ fn candidates(n: usize, share: u64) -> usize
 
 // The dark value of each pixel, at the work area's start.
 fn darks(z: Size, k: Settings, frame: &[u8], work: &mut [i64])
-    requires { ⌜ Ready z k (length (now frame)) (length (now work)) ⌝ }
+    requires { ⌜ AcceptedLight z k (length (now frame)) (length (now work)) ⌝ }
     ensures { λ _. ⌜ DarkPlane z k (now (frame .entry)) (now (work .entry)) (now (work .exit)) ⌝ }
 {
     let w = z.w;
@@ -194,7 +195,7 @@ fn darks(z: Size, k: Settings, frame: &[u8], work: &mut [i64])
 
 // The light of a frame, for a call that is not refused. The work area is wiped.
 pub fn find(z: Size, k: Settings, frame: &[u8], work: &mut [i64]) -> Rgb
-    requires { ⌜ Ready z k (length (now frame)) (length (now work)) ⌝ }
+    requires { ⌜ AcceptedLight z k (length (now frame)) (length (now work)) ⌝ }
     ensures { λ r. ⌜ Finds z k (now (frame .entry)) (now (work .entry)) r (now (work .exit)) ⌝ }
 {
     let w = z.w;

@@ -13,9 +13,8 @@ use Rattle.rules.specs.Refusals.{first, off, badSize, badFrame}
 use Rattle.rules.proofs.Good.{same-of, frame-good}
 use Rattle.fields.proofs.Every.{both}
 use Rattle.pnm.specs.declared.Head.the-variants as head
-use Rattle.ppm.specs.declared.Taken.the-variants as taken
 use Rattle.pnm.specs.Header.{number, token, second, third, last, magic, closed, good, headerOf}
-use Rattle.ppm.specs.Promise.{size, pixels, testsBody, testsLent, refuseSize, refuseRead, refuseWrite, frameOr}
+use Rattle.ppm.specs.Promise.{size, pixels, testsBody, testsLent, refuseSize, refuseRead, refuseWrite}
 use Rattle.ppm.specs.File.{long}
 use Rattle.ppm.proofs.Exactly.{read-exact, write-exact}
 use Rattle.pnm.proofs.Headers.{Says}
@@ -105,12 +104,3 @@ pub writable : (z : Size) (frame out : ℕ) → refuseWrite z frame out ≡ 0 �
 writable z frame out e =
     let n = write-exact z frame out .free e in
     record { pixels = frame-good z frame (n .1 .0); whole = same-of out (long z) (n .1 .1 .0) }
-
--- ---- the answer to a call whose number is n, where m is the rules' number
-
-pub frame-refused : (n m : ℕ) (z : Size) → n ≡ m → (n ≡ 0 → ⊥) → taken.Refused n ≡ frameOr m z
-frame-refused n zero z e h = absurd (h e)
-frame-refused n (suc m) z e h = ap taken.Refused e
-
-pub frame-taken : (m : ℕ) (y z : Size) → y ≡ z → m ≡ 0 → taken.Frame y ≡ frameOr m z
-frame-taken m y z e f = rw (e, f)

@@ -11,7 +11,7 @@ use Rattle.rules.specs.declared.Answer.{Answer}
 use Rattle.rules.specs.declared.Answer.the-variants as answer
 use Rattle.rules.specs.Refusals.{badSize, badFrame}
 use Rattle.rules.proofs.Good.{size-good, frame-good}
-use Rattle.rules.proofs.Exactly.{done-free}
+use Rattle.rules.proofs.Answers.{done-free}
 use Rattle.fields.specs.Words.{bytes}
 use Rattle.fields.specs.Decimal.{figured, decimal}
 use Rattle.fields.proofs.Decimal.{value-decimal, figured-decimal}

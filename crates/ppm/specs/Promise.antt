@@ -1,13 +1,13 @@
 -- What reader and writer promise, for every input: the answer, and what stands in the lent memory afterwards. Assumes nothing.
 use mathlib.Core.Path.{_≡_}
-use Prim.Native.Nat.{ℕ, zero, suc}
+use Prim.Native.Nat.{ℕ, suc}
 use mathlib.Core.Bool.{cond, not}
 use mathlib.Core.List.{List, [], _∷_, _++_}
 use lib.ListN.{length, drop}
 use Rattle.rules.specs.declared.Size.{Size}
 use Rattle.rules.specs.declared.Answer.{Answer}
 use Rattle.rules.specs.Refusals.{Tests, first, off, badSize, badFrame}
-use Rattle.rules.specs.Promise.{answered, unless}
+use Rattle.rules.specs.Promise.{or, answered, unless}
 use Rattle.ppm.specs.declared.Taken.{Taken}
 use Rattle.ppm.specs.declared.Taken.the-variants as taken
 use Rattle.pnm.specs.Header.{number, second, third, last, good}
@@ -57,8 +57,7 @@ refuseWrite z frame out = first (testsWrite z frame out)
 
 -- the case for each number, 0 for a file that is taken
 abbrev pub frameOr : ℕ → Size → Taken
-frameOr zero z = taken.Frame z
-frameOr (suc n) z = taken.Refused (suc n)
+frameOr = or taken.Frame taken.Refused
 
 abbrev pub takenSaid : Taken → ℕ
 takenSaid (taken.Frame z) = 0

@@ -1,4 +1,7 @@
 // PPM files: a picture read into a frame, and written from one. No public call asks anything of its caller.
+use judge::first_of;
+use judge::wrong_frame;
+use judge::wrong_size;
 use pnm::Head;
 use rules::Answer;
 use rules::Size;
@@ -24,12 +27,13 @@ pub enum Taken {
 fn refuse_read(z: Size, top: usize, n: usize, lent: usize) -> u8
     ensures { λ r. ⌜ r ≡ first (testsLent z top n lent) ⌝ }
 {
-    if judge::wrong_size(z) {
+    if wrong_size(z) {
         return 1;
     }
-    let of_lent = judge::given(judge::wrong_frame(z, lent), 4, 0);
-    let of_pixels = judge::given(judge::wrong_frame(z, n), 13, of_lent);
-    judge::given(top != 255, 12, of_pixels)
+    let maximum = top != 255;
+    let pixels = wrong_frame(z, n);
+    let room = wrong_frame(z, lent);
+    first_of(maximum, 12, pixels, 13, room, 4, false, 0)
 }
 
 // The size of the picture in a file, so that a frame of the right length can be lent: as if one were.
@@ -91,7 +95,7 @@ fn digits(n: usize) -> usize
 pub fn length(z: Size) -> usize
     ensures { λ r. ⌜ r ≡ lengthFor z ⌝ }
 {
-    if judge::wrong_size(z) {
+    if wrong_size(z) {
         return 0;
     }
     9 + digits(z.w) + digits(z.h) + 3 * (z.w * z.h)
@@ -100,11 +104,12 @@ pub fn length(z: Size) -> usize
 fn refuse_write(z: Size, frame: usize, out: usize) -> u8
     ensures { λ r. ⌜ r ≡ refuseWrite z frame out ⌝ }
 {
-    if judge::wrong_size(z) {
+    if wrong_size(z) {
         return 1;
     }
-    let of_out = judge::given(out != length(z), 4, 0);
-    judge::given(judge::wrong_frame(z, frame), 3, of_out)
+    let pixels = wrong_frame(z, frame);
+    let room = out != length(z);
+    first_of(pixels, 3, room, 4, false, 0, false, 0)
 }
 
 // Writes the header, and answers where it ends.

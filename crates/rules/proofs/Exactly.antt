@@ -1,8 +1,9 @@
 -- "Given exactly when", for any list of numbered tests, so for each operation's: a number is given exactly when its test holds and none before it
--- does (`given`, `gives`), and a call is accepted exactly when no test holds (`accepts`, `accepted`). And an answer says its number. Assumes nothing.
-use mathlib.Core.Path.{_≡_, refl, sym, ap, _∙_}
+-- does (`given`, `gives`), and a call is accepted exactly when no test holds (`accepts`, `accepted`). Assumes nothing.
+use mathlib.Core.Path.{_≡_, refl, sym}
 use mathlib.Core.Bool.{Bool, true, false, cond, true≢false}
-use mathlib.Core.List.{List, [], _∷_}
+use mathlib.Core.List.{List, [], _∷_, _++_}
+use lib.ListN.{length}
 use Prim.Native.Nat.{ℕ, zero, suc}
 use borrow.Author.Tests.{lt-ltb}
 use lib.Dec.{ltb}
@@ -11,10 +12,9 @@ use Rattle.rules.specs.declared.Size.{Size}
 use Rattle.rules.specs.declared.Settings.{Settings}
 use Rattle.rules.specs.declared.Rgb.{Rgb}
 use Rattle.rules.specs.declared.Rect.{Rect}
-use Rattle.rules.specs.declared.Figure.{Figure}
-use Rattle.rules.specs.declared.Answer.the-variants as answer
+use Rattle.rules.specs.Setup.{Setup}
 use Rattle.rules.specs.Refusals.{Tests, first, testsLight, testsClear, testsReplace, testsHaze, testsBand, refuseLight, refuseClear, refuseReplace, refuseHaze, refuseBand}
-use Rattle.rules.specs.Promise.{answered, foundOr, figureOr, said, foundSaid, bandSaid}
+use Rattle.rules.specs.Promise.{Lent, noClear, noReplace}
 
 -- no test of the list holds
 abbrev pub None : Tests → Type 0
@@ -56,6 +56,20 @@ accepted (c ∷ l) p e = go (c .0) (c .1) refl p e (accepted l)
     go (suc n) true t q f rest = absurd (let z : suc n ≡ 0 = f in omega arith)
     go (suc n) false t q f rest = (t, rest (rw (lt-ltb 0 (suc n) (omega arith)) at q) f)
 
+-- ---- a second list after a first one: its number counts where the first gives none
+
+pub joined-some : (l m : Tests) (n : ℕ) → n ≡ first l → (n ≡ 0 → ⊥) → n ≡ first (l ++ m)
+joined-some [] m n e h = absurd (h e)
+joined-some (c ∷ l) m n e h = go (c .1) e (λ f. joined-some l m n f h)
+  where
+    go : (b : Bool) → n ≡ cond b (c .0) (first l) → (n ≡ first l → n ≡ first (l ++ m)) → n ≡ cond b (c .0) (first (l ++ m))
+    go true f ih = f
+    go false f ih = ih f
+
+pub joined-none : (l m : Tests) → None l → first (l ++ m) ≡ first m
+joined-none [] m h = refl
+joined-none (c ∷ l) m h = rw (h .0) (joined-none l m (h .1))
+
 -- ---- each operation: its number is the first of its list, whose numbers are above 0
 
 pub record Exact (n : ℕ) (l : Tests) : Type 0 where
@@ -71,14 +85,19 @@ pub light-exact : (z : Size) (k : Settings) (frame work : ℕ) → Exact (refuse
 unfolding refuseLight
 light-exact z k frame work = exact _ refl
 
-pub clear-exact : (z : Size) (k : Settings) (a : Rgb) (frame map picture work : ℕ) → Exact (refuseClear z k a frame map picture work) (testsClear z k a frame map picture work)
+pub clear-exact :
+    (p : Setup) (l : Lent)
+    → Exact (noClear p l) (testsClear (p .size) (p .settings) (p .light) (length (l .frame)) (length (l .map)) (length (l .picture)) (length (l .work)))
 unfolding refuseClear
-clear-exact z k a frame map picture work = exact _ refl
+clear-exact p l = exact _ refl
 
-pub replace-exact : (z : Size) (k : Settings) (a : Rgb) (c : Rect) (new frame map picture work : ℕ) → Exact (refuseReplace z k a c new frame map picture work) (testsReplace z k a c new frame map picture work)
+pub replace-exact :
+    (p : Setup) (c : Rect) (new : List ℕ) (l : Lent)
+    → Exact
+    (noReplace p c new l)
+    (testsReplace (p .size) (p .settings) (p .light) c (length new) (length (l .frame)) (length (l .map)) (length (l .picture)) (length (l .work)))
 unfolding refuseReplace
-replace-exact z k a c new frame map picture work =
-    exact _ refl
+replace-exact p c new l = exact _ refl
 
 pub haze-exact : (z : Size) (a : Rgb) (clean : ℕ) (map : List ℕ) (hazed : ℕ) → Exact (refuseHaze z a clean map hazed) (testsHaze z a clean map hazed)
 unfolding refuseHaze
@@ -87,21 +106,3 @@ haze-exact z a clean map hazed = exact _ refl
 pub band-exact : (z : Size) (map : List ℕ) (start end : ℕ) → Exact (refuseBand z map start end) (testsBand z map start end)
 unfolding refuseBand
 band-exact z map start end = exact _ refl
-
--- ---- an answer says its number
-
-pub said-answered : (n : ℕ) → said (answered n) ≡ n
-said-answered zero = refl
-said-answered (suc n) = refl
-
--- a call that is done was not refused
-pub done-free : (n : ℕ) → answered n ≡ answer.Done → n ≡ 0
-done-free n e = sym (said-answered n) ∙ ap said e
-
-pub said-found : (n : ℕ) (a : Rgb) → foundSaid (foundOr n a) ≡ n
-said-found zero a = refl
-said-found (suc n) a = refl
-
-pub said-band : (n : ℕ) (f : Figure) → bandSaid (figureOr n f) ≡ n
-said-band zero f = refl
-said-band (suc n) f = refl

@@ -2,16 +2,18 @@
 -- Assumes nothing.
 use mathlib.Core.Path.{_≡_, refl}
 use mathlib.Core.Bool.{Bool, true, false, not, _||_, true≢false}
-use Prim.Native.Nat.{ℕ, _+_, _*_, _≤_, _<_}
+use mathlib.Core.List.{List, [], _∷_}
+use Prim.Native.Nat.{ℕ, zero, suc, _+_, _*_, _≤_, _<_, zero-le}
 use native.Mathlib.Omega.{arith}
 use lib.Dec.{ltb, eqb}
+use lib.ListN.{getD}
 use borrow.Author.Tests.{ltb-false, ltb-true, eqb-true, eqb-false}
 use Rattle.rules.specs.Shape.{described, room}
 use Rattle.rules.specs.declared.Size.{Size}
 use Rattle.rules.specs.declared.Settings.{Settings}
 use Rattle.rules.specs.declared.Rgb.{Rgb}
 use Rattle.rules.specs.declared.Rect.{Rect}
-use Rattle.rules.specs.Refusals.{out, off, badSize, badSettings, badFrame, badMap, badWork, badLight, badRect, badNew, badBand}
+use Rattle.rules.specs.Refusals.{out, off, badSize, badSettings, badFrame, badMap, badWork, badLight, badRect, badNew, badBand, badEntries}
 use Rattle.rules.specs.Good.{GoodSize, GoodSettings, GoodLight, GoodRect}
 
 -- neither of two tests
@@ -86,6 +88,15 @@ map-good z n e = same-of n (z .w * z .h) e
 pub work-good : (z : Size) (n : ℕ) → badWork z n ≡ false → room (described z) ≤ n
 unfolding badWork
 work-good z n e = ltb-false n (room (described z)) e
+
+-- ---- a map's entries
+
+-- none is above 10,000
+pub entries-good : (map : List ℕ) → badEntries map ≡ false → (p : ℕ) → getD map p 0 ≤ 10000
+unfolding badEntries
+entries-good [] e p = zero-le
+entries-good (t ∷ map) e zero = ltb-false 10000 t (neither (ltb 10000 t) (badEntries map) e .0)
+entries-good (t ∷ map) e (suc p) = entries-good map (neither (ltb 10000 t) (badEntries map) e .1) p
 
 -- ---- a rectangle, its pixels, a band
 

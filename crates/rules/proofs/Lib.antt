@@ -13,6 +13,7 @@ pub mod Spread
 pub mod Rank
 pub mod Good
 pub mod Exactly
+pub mod Answers
 pub mod Unique
 pub mod Run
 pub mod Frames

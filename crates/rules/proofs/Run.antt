@@ -5,22 +5,20 @@ use mathlib.Core.Path.{_≡_, refl, sym, ap, _∙_, subst}
 use mathlib.Core.Bool.{Bool, true, false, cond}
 use mathlib.Core.List.{List, [], _∷_}
 use Prim.Native.Nat.{ℕ, zero, suc, _+_, _<_}
-use Rattle.rules.specs.Shape.{Shape, described}
-use Rattle.rules.specs.declared.Size.{Size}
+use Rattle.rules.specs.Shape.{Shape}
 use Rattle.rules.specs.declared.Settings.{Settings}
 use Rattle.rules.specs.declared.Rgb.{Rgb}
 use Rattle.rules.specs.declared.Rect.{Rect}
 use Rattle.rules.specs.declared.Answer.{Answer}
 use Rattle.rules.specs.Window.{Plane}
-use Rattle.rules.specs.Transmission.{refined}
-use Rattle.rules.specs.Picture.{cleared}
-use Rattle.rules.specs.Buffers.{pixels, values, State, clear, near, patch, placed, pasted, reach, replace}
+use Rattle.rules.specs.Setup.{Setup, shape}
+use Rattle.rules.specs.Buffers.{pixels, values, State, mapOf, pictureOf, clear, near, patch, placed, pasted, reach, replace}
 use Rattle.rules.specs.Promise.{Lent, state, lent, unless, wiped, noClear, noReplace, Replaces}
 use Rattle.rules.specs.Run.{Call, accepted, step, run, Fresh, Ran, cleared as after-clear, replaced as after-replace}
 use Rattle.rules.proofs.Local.{Agree, Local, refined-local, cleared-local}
 use Rattle.rules.proofs.Near.{far-sees}
 use Rattle.rules.proofs.Buffers.{values-entries, pixels-bytes, entries-cong, bytes-cong}
-use Rattle.rules.proofs.Exactly.{done-free}
+use Rattle.rules.proofs.Answers.{done-free}
 
 pub patch-no : {A : Type 0} (t : ℕ → ℕ → Bool) (new old : Plane A) (y x : ℕ) → t y x ≡ false → patch t new old y x ≡ old y x
 unfolding patch
@@ -28,7 +26,7 @@ patch-no t new old y x e = rw e
 
 -- ---- one accepted call
 
-module _ (z : Shape) (k : Settings) (a : Rgb) (c : Rect) (new : List ℕ) where
+module _ (z : Shape) (k : Settings) (c : Rect) (new : List ℕ) where
   pub far-agree : (frame : List ℕ) (y x : ℕ) → near (reach k) c y x ≡ false → Agree z (reach k) y x (pixels z frame) (pixels z (pasted z c new frame))
   far-agree frame y x e v u w =
       let f : Plane Rgb = patch (near 0 c) (placed c new) (pixels z frame) in
@@ -51,59 +49,65 @@ module _ (z : Shape) (k : Settings) (a : Rgb) (c : Rect) (new : List ℕ) where
       go true e = refl
       go false e = h ∙ l (pixels z frame) (pixels z (pasted z c new frame)) y x hy hx (far-agree frame y x e)
 
-  pub replace-fresh : (frame : List ℕ) → replace z k a c new (clear z k a frame) ≡ clear z k a (pasted z c new frame)
-  unfolding replace clear
-  replace-fresh frame =
-      let map =
-      entries-cong z _ _
-      (λ y x hy hx. refresh (refined z k a) (refined-local z k a) frame _ y x hy hx (values-entries z (refined z k a (pixels z frame)) y x hy hx)) in
-      let picture =
-      bytes-cong z _ _
-      (λ y x hy hx. refresh (cleared z k a) (cleared-local z k a) frame _ y x hy hx (pixels-bytes z (cleared z k a (pixels z frame)) y x hy hx)) in
-      λ i. record { frame = pasted z c new frame; map = map i; picture = picture i }
-
 -- ---- a run of calls
 
-module _ (z : Size) (k : Settings) (a : Rgb) where
-  -- an accepted call keeps a fresh state fresh
-  fresh-replace : (s : State) (c : Rect) (new : List ℕ) → Fresh z k a s → Fresh z k a (replace (described z) k a c new s)
-  unfolding replace
-  fresh-replace s c new h = ap (replace (described z) k a c new) h ∙ replace-fresh (described z) k a c new (s .frame)
+module _ (p : Setup) where
+  pub replace-fresh : (c : Rect) (new frame : List ℕ) → replace p c new (clear p frame) ≡ clear p (pasted (shape p) c new frame)
+  unfolding replace clear
+  replace-fresh c new frame =
+      let z = shape p in
+      let k = p .settings in
+      let f = pixels z frame in
+      let map =
+      entries-cong z _ _
+      (λ y x hy hx. refresh z k c new (mapOf p) (refined-local z k (p .light)) frame _ y x hy hx (values-entries z (mapOf p f) y x hy hx)) in
+      let picture =
+      bytes-cong z _ _
+      (λ y x hy hx. refresh z k c new (pictureOf p) (cleared-local z k (p .light)) frame _ y x hy hx (pixels-bytes z (pictureOf p f) y x hy hx)) in
+      λ i. record { frame = pasted z c new frame; map = map i; picture = picture i }
 
-  step-fresh : (s : State) (c : Call) → Fresh z k a s → Fresh z k a (step z k a s c)
+  -- an accepted call keeps a fresh state fresh
+  fresh-replace : (s : State) (c : Rect) (new : List ℕ) → Fresh p s → Fresh p (replace p c new s)
+  unfolding replace
+  fresh-replace s c new h = ap (replace p c new) h ∙ replace-fresh c new (s .frame)
+
+  step-fresh : (s : State) (c : Call) → Fresh p s → Fresh p (step p s c)
   unfolding step
-  step-fresh s c h = go (accepted z k a s c)
+  step-fresh s c h = go (accepted p s c)
     where
-      go : (b : Bool) → Fresh z k a (cond b (replace (described z) k a (c .rect) (c .new) s) s)
+      go : (b : Bool) → Fresh p (cond b (replace p (c .rect) (c .new) s) s)
       go true = fresh-replace s (c .rect) (c .new) h
       go false = h
 
-  run-from : (s : State) (cs : List Call) → Fresh z k a s → Fresh z k a (run z k a s cs)
+  run-from : (s : State) (cs : List Call) → Fresh p s → Fresh p (run p s cs)
   unfolding run
   run-from s [] h = h
-  run-from s (c ∷ cs) h = run-from (step z k a s c) cs (step-fresh s c h)
+  run-from s (c ∷ cs) h = run-from (step p s c) cs (step-fresh s c h)
 
   -- demand 3, first half
-  pub run-fresh : (frame : List ℕ) (cs : List Call) → Fresh z k a (run z k a (clear (described z) k a frame) cs)
+  pub run-fresh : (frame : List ℕ) (cs : List Call) → Fresh p (run p (clear p frame) cs)
   unfolding clear
-  run-fresh frame cs = run-from (clear (described z) k a frame) cs refl
+  run-fresh frame cs = run-from (clear p frame) cs refl
 
 -- ---- what a replacement leaves alone
 
 -- the frame outside the rectangle; map and picture farther than the reach from it, in rows or in columns
-pub record Alone (z : Shape) (k : Settings) (c : Rect) (s m : State) : Type 0 where
+pub record Alone (z : Shape) (q : ℕ) (c : Rect) (s m : State) : Type 0 where
   pub frame : (y x : ℕ) → y < z .h → x < z .w → near 0 c y x ≡ false → pixels z (m .frame) y x ≡ pixels z (s .frame) y x
-  pub map : (y x : ℕ) → y < z .h → x < z .w → near (reach k) c y x ≡ false → values z (m .map) y x ≡ values z (s .map) y x
-  pub picture : (y x : ℕ) → y < z .h → x < z .w → near (reach k) c y x ≡ false → pixels z (m .picture) y x ≡ pixels z (s .picture) y x
+  pub map : (y x : ℕ) → y < z .h → x < z .w → near q c y x ≡ false → values z (m .map) y x ≡ values z (s .map) y x
+  pub picture : (y x : ℕ) → y < z .h → x < z .w → near q c y x ≡ false → pixels z (m .picture) y x ≡ pixels z (s .picture) y x
 
 -- demand 3, second half: from any state
-pub replace-alone : (z : Shape) (k : Settings) (a : Rgb) (c : Rect) (new : List ℕ) (s : State) → Alone z k c s (replace z k a c new s)
+pub replace-alone : (p : Setup) (c : Rect) (new : List ℕ) (s : State) → Alone (shape p) (reach (p .settings)) c s (replace p c new s)
 unfolding replace
-replace-alone z k a c new s = record {
-  frame = λ y x hy hx e. pixels-bytes z _ y x hy hx ∙ patch-no (near 0 c) _ _ y x e;
-  map = λ y x hy hx e. values-entries z _ y x hy hx ∙ patch-no (near (reach k) c) _ _ y x e;
-  picture = λ y x hy hx e. pixels-bytes z _ y x hy hx ∙ patch-no (near (reach k) c) _ _ y x e;
-}
+replace-alone p c new s =
+    let z = shape p in
+    let q = reach (p .settings) in
+    record {
+      frame = λ y x hy hx e. pixels-bytes z _ y x hy hx ∙ patch-no (near 0 c) _ _ y x e;
+      map = λ y x hy hx e. values-entries z _ y x hy hx ∙ patch-no (near q c) _ _ y x e;
+      picture = λ y x hy hx e. pixels-bytes z _ y x hy hx ∙ patch-no (near q c) _ _ y x e;
+    }
 
 -- ---- demand 3 of the calls' own promises
 
@@ -112,19 +116,19 @@ either-way : (P : Lent → Type 0) (n : ℕ) (new old m : Lent) → m ≡ unless
 either-way P zero new old m e p q = subst P (sym e) p
 either-way P (suc n) new old m e p q = subst P (sym e) q
 
-module _ (z : Size) (k : Settings) (a : Rgb) where
-  pub ran-fresh : (m : Lent) → Ran z k a m → Fresh z k a (state m)
+module _ (p : Setup) where
+  pub ran-fresh : (m : Lent) → Ran p m → Fresh p (state m)
   unfolding clear
-  ran-fresh _ (after-clear l m r p e) =
-      let none : noClear z k a l ≡ 0 = done-free (noClear z k a l) (sym (p .answer) ∙ e) in
-      let left : m ≡ lent (clear (described z) k a (l .frame)) (wiped (described z) (l .work)) = rw none at (p .after) in
+  ran-fresh _ (after-clear l m r q e) =
+      let none : noClear p l ≡ 0 = done-free (noClear p l) (sym (q .answer) ∙ e) in
+      let left : m ≡ lent (clear p (l .frame)) (wiped (shape p) (l .work)) = rw none at (q .after) in
       rw left refl
-  ran-fresh _ (after-replace l m work c new r ran p) =
-      let old : Fresh z k a (state l) = ran-fresh l ran in
-      either-way (λ (n : Lent). Fresh z k a (state n)) (noReplace z k a c new (lent (state l) work)) _ (lent (state l) work) m (p .after)
-      (fresh-replace z k a (state l) c new old) old
+  ran-fresh _ (after-replace l m work c new r ran q) =
+      let old : Fresh p (state l) = ran-fresh l ran in
+      either-way (λ (n : Lent). Fresh p (state n)) (noReplace p c new (lent (state l) work)) _ (lent (state l) work) m (q .after)
+      (fresh-replace p (state l) c new old) old
 
-  pub replaces-alone : (c : Rect) (new : List ℕ) (l m : Lent) (r : Answer) → Replaces z k a c new l r m → Alone (described z) k c (state l) (state m)
-  replaces-alone c new l m r p =
-      either-way (λ (n : Lent). Alone (described z) k c (state l) (state n)) (noReplace z k a c new l) _ l m (p .after)
-      (replace-alone (described z) k a c new (state l)) (record { frame = λ y x hy hx e. refl; map = λ y x hy hx e. refl; picture = λ y x hy hx e. refl })
+  pub replaces-alone : (c : Rect) (new : List ℕ) (l m : Lent) (r : Answer) → Replaces p c new l r m → Alone (shape p) (reach (p .settings)) c (state l) (state m)
+  replaces-alone c new l m r q =
+      either-way (λ (n : Lent). Alone (shape p) (reach (p .settings)) c (state l) (state n)) (noReplace p c new l) _ l m (q .after)
+      (replace-alone p c new (state l)) (record { frame = λ y x hy hx e. refl; map = λ y x hy hx e. refl; picture = λ y x hy hx e. refl })

@@ -13,6 +13,7 @@ use Rattle.rules.specs.Window.{Plane, from}
 use Rattle.rules.specs.Light.{at}
 use Rattle.rules.specs.Transmission.{refined}
 use Rattle.rules.specs.Picture.{cleared, haze3}
+use Rattle.rules.specs.Setup.{Setup, shape}
 
 -- ---- a frame: row after row from the top, each pixel R, G, B
 
@@ -56,9 +57,17 @@ pub record State : Type 0 where
   pub map : List ℕ
   pub picture : List ℕ
 
-unfoldable pub clear : Shape → Settings → Rgb → List ℕ → State
-clear z k a frame =
-    record { frame = frame; map = entries z (refined z k a (pixels z frame)); picture = bytes z (cleared z k a (pixels z frame)) }
+-- map and picture of a frame's pixels
+abbrev pub mapOf : Setup → Plane Rgb → Plane ℕ
+mapOf p = refined (shape p) (p .settings) (p .light)
+
+abbrev pub pictureOf : Setup → Plane Rgb → Plane Rgb
+pictureOf p = cleared (shape p) (p .settings) (p .light)
+
+unfoldable pub clear : Setup → List ℕ → State
+clear p frame =
+    let z = shape p in
+    record { frame = frame; map = entries z (mapOf p (pixels z frame)); picture = bytes z (pictureOf p (pixels z frame)) }
 
 -- ---- Replace
 
@@ -81,12 +90,14 @@ pasted z c new frame = bytes z (patch (near 0 c) (placed c new) (pixels z frame)
 abbrev pub reach : Settings → ℕ
 reach k = k .s + 2 * k .r
 
-unfoldable pub replace : Shape → Settings → Rgb → Rect → List ℕ → State → State
-replace z k a c new s =
+unfoldable pub replace : Setup → Rect → List ℕ → State → State
+replace p c new s =
+    let z = shape p in
     let frame = pasted z c new (s .frame) in
     let f = pixels z frame in
+    let t = near (reach (p .settings)) c in
     record {
       frame = frame;
-      map = entries z (patch (near (reach k) c) (refined z k a f) (values z (s .map)));
-      picture = bytes z (patch (near (reach k) c) (cleared z k a f) (pixels z (s .picture)));
+      map = entries z (patch t (mapOf p f) (values z (s .map)));
+      picture = bytes z (patch t (pictureOf p f) (pixels z (s .picture)));
     }

@@ -14,6 +14,7 @@ use Rattle.rules.specs.Window.{from, window}
 use Rattle.rules.specs.Light.{share, light}
 use Rattle.rules.specs.Transmission.{ratio, fit}
 use Rattle.rules.specs.Picture.{recover, haze, figure}
+use Rattle.rules.specs.Setup.{handed}
 use Rattle.rules.specs.Buffers.{pixels, clear, hazed}
 use Rattle.rules.specs.Refusals.{refuseLight, refuseClear, refuseReplace, refuseHaze, refuseBand}
 
@@ -58,7 +59,7 @@ lit z k frame = nats (colour (found z k frame))
 
 -- map and picture under a light
 abbrev under : Shape → Settings → Rgb → List ℕ → List ℤ
-under z k a frame = let s = clear z k a frame in nats (s .map ++ s .picture)
+under z k a frame = let s = clear (handed (size (z .w) (z .h)) k a) frame in nats (s .map ++ s .picture)
 
 -- the light that is found, then map and picture under it
 abbrev all : Shape → Settings → List ℕ → List ℤ

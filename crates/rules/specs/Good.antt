@@ -1,6 +1,8 @@
--- What is known of a size, of settings, of a light and of a rectangle that are not refused. Assumes nothing.
-use Prim.Native.Nat.{_+_, _*_, _≤_, _<_}
-use Rattle.rules.specs.Shape.{Shape}
+-- What is known of a size, of settings, of a light, of a rectangle and of a call of Light that are not refused. Assumes nothing.
+use mathlib.Core.Path.{_≡_}
+use Prim.Native.Nat.{ℕ, _+_, _*_, _≤_, _<_}
+use Rattle.rules.specs.Shape.{Shape, described, room}
+use Rattle.rules.specs.declared.Size.{Size}
 use Rattle.rules.specs.declared.Settings.{Settings}
 use Rattle.rules.specs.declared.Rgb.{Rgb}
 use Rattle.rules.specs.declared.Rect.{Rect}
@@ -34,3 +36,10 @@ pub record GoodRect (z : Shape) (c : Rect) : Type 0 where
   pub some-h : 0 < c .h
   pub across : c .x + c .w ≤ z .w
   pub down : c .y + c .h ≤ z .h
+
+-- frame and work are the lengths of what Light is lent
+pub record AcceptedLight (z : Size) (k : Settings) (frame work : ℕ) : Type 0 where
+  pub size : GoodSize (described z)
+  pub settings : GoodSettings k
+  pub bytes : frame ≡ 3 * (z .w * z .h)
+  pub space : room (described z) ≤ work

@@ -5,6 +5,7 @@ pub mod Fold
 pub mod Light
 pub mod Transmission
 pub mod Picture
+pub mod Setup
 pub mod Buffers
 pub mod Box
 pub mod Good

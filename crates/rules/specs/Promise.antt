@@ -18,22 +18,25 @@ use Rattle.rules.specs.declared.Band.{Band}
 use Rattle.rules.specs.declared.Band.the-variants as band
 use Rattle.rules.specs.Light.{light}
 use Rattle.rules.specs.Picture.{figure}
+use Rattle.rules.specs.Setup.{Setup, shape}
 use Rattle.rules.specs.Buffers.{pixels, hazed, State, clear, replace}
 use Rattle.rules.specs.Refusals.{refuseLight, refuseClear, refuseReplace, refuseHaze, refuseBand}
 
 -- ---- the answers: the case for each number of the paper, 0 for an accepted call, with the values that it carries
 
+-- of any kind of answer: for 0 the case that carries the value, for another number the case that carries it
+abbrev pub or : {A B : Type 0} → (B → A) → (ℕ → A) → ℕ → B → A
+or ok bad zero v = ok v
+or ok bad (suc n) v = bad (suc n)
+
 abbrev pub answered : ℕ → Answer
-answered zero = answer.Done
-answered (suc n) = answer.Refused (suc n)
+answered n = or (λ (v : Unit {0}). answer.Done) answer.Refused n tt
 
 abbrev pub foundOr : ℕ → Rgb → Found
-foundOr zero a = found.Light a
-foundOr (suc n) a = found.Refused (suc n)
+foundOr = or found.Light found.Refused
 
 abbrev pub figureOr : ℕ → Figure → Band
-figureOr zero f = band.Figure f
-figureOr (suc n) f = band.Refused (suc n)
+figureOr = or band.Figure band.Refused
 
 -- and the number that each case says
 abbrev pub said : Answer → ℕ
@@ -66,18 +69,29 @@ pub record Lent : Type 0 where
   pub picture : List ℕ
   pub work : List ℤ
 
+abbrev pub lentOf : List ℕ → List ℕ → List ℕ → List ℤ → Lent
+lentOf frame map picture work = record { frame = frame; map = map; picture = picture; work = work }
+
 abbrev pub state : Lent → State
 state l = record { frame = l .frame; map = l .map; picture = l .picture }
 
 abbrev pub lent : State → List ℤ → Lent
-lent s work = record { frame = s .frame; map = s .map; picture = s .picture; work = work }
+lent s work = lentOf (s .frame) (s .map) (s .picture) work
 
 -- the refusal number of a call on these buffers
-abbrev pub noClear : Size → Settings → Rgb → Lent → ℕ
-noClear z k a l = refuseClear z k a (length (l .frame)) (length (l .map)) (length (l .picture)) (length (l .work))
+abbrev pub noClear : Setup → Lent → ℕ
+noClear p l = refuseClear (p .size) (p .settings) (p .light) (length (l .frame)) (length (l .map)) (length (l .picture)) (length (l .work))
 
-abbrev pub noReplace : Size → Settings → Rgb → Rect → List ℕ → Lent → ℕ
-noReplace z k a c new l = refuseReplace z k a c (length new) (length (l .frame)) (length (l .map)) (length (l .picture)) (length (l .work))
+abbrev pub noReplace : Setup → Rect → List ℕ → Lent → ℕ
+noReplace p c new l =
+    refuseReplace (p .size) (p .settings) (p .light) c (length new) (length (l .frame)) (length (l .map)) (length (l .picture)) (length (l .work))
+
+-- what an accepted call leaves in them
+abbrev pub afterClear : Setup → Lent → Lent
+afterClear p l = lent (clear p (l .frame)) (wiped (shape p) (l .work))
+
+abbrev pub afterReplace : Setup → Rect → List ℕ → Lent → Lent
+afterReplace p c new l = lent (replace p c new (state l)) (wiped (shape p) (l .work))
 
 -- ---- the promises
 
@@ -87,14 +101,14 @@ pub record Lights (z : Size) (k : Settings) (frame : List ℕ) (work : List ℤ)
   pub after : work′ ≡ unless (refuseLight z k (length frame) (length work)) (wiped (described z) work) work
 
 -- Clear: l is what stood in the buffers, m what stands there afterwards
-pub record Clears (z : Size) (k : Settings) (a : Rgb) (l : Lent) (r : Answer) (m : Lent) : Type 0 where
-  pub answer : r ≡ answered (noClear z k a l)
-  pub after : m ≡ unless (noClear z k a l) (lent (clear (described z) k a (l .frame)) (wiped (described z) (l .work))) l
+pub record Clears (p : Setup) (l : Lent) (r : Answer) (m : Lent) : Type 0 where
+  pub answer : r ≡ answered (noClear p l)
+  pub after : m ≡ unless (noClear p l) (afterClear p l) l
 
 -- Replace: c is the rectangle, new its pixels
-pub record Replaces (z : Size) (k : Settings) (a : Rgb) (c : Rect) (new : List ℕ) (l : Lent) (r : Answer) (m : Lent) : Type 0 where
-  pub answer : r ≡ answered (noReplace z k a c new l)
-  pub after : m ≡ unless (noReplace z k a c new l) (lent (replace (described z) k a c new (state l)) (wiped (described z) (l .work))) l
+pub record Replaces (p : Setup) (c : Rect) (new : List ℕ) (l : Lent) (r : Answer) (m : Lent) : Type 0 where
+  pub answer : r ≡ answered (noReplace p c new l)
+  pub after : m ≡ unless (noReplace p c new l) (afterReplace p c new l) l
 
 -- Haze: out is the lent frame before, out′ afterwards
 pub record Hazes (z : Size) (a : Rgb) (clean map out : List ℕ) (r : Answer) (out′ : List ℕ) : Type 0 where

@@ -19,9 +19,11 @@ use Rattle.rules.specs.declared.Found.{Found}
 use Rattle.rules.specs.declared.Found.the-variants.{Light, Refused}
 use Rattle.rules.specs.Window.{Plane}
 use Rattle.rules.specs.Light.{light}
+use Rattle.rules.specs.Setup.{handed}
 use Rattle.rules.specs.Buffers.{pixels, State, clear}
 use Rattle.rules.specs.Refusals.{badFrame, badMap, badWork, badLight, refuseLight, refuseClear}
-use Rattle.rules.specs.Promise.{foundOr, unless, wiped, Lent, lent, Lights, Clears}
+use Rattle.rules.specs.Promise.{foundOr, Lent, lentOf, noClear, afterClear, Lights, Clears}
+use Rattle.rules.proofs.Answers.{or-done, made}
 use Rattle.fields.specs.Written.{Wrote}
 use Rattle.fields.proofs.Written.{then}
 use Rattle.records.specs.Judging.{cells}
@@ -64,8 +66,7 @@ module _ (z : Size) (k : Settings) (frame entries picture work out : ℕ) (r : R
 -- ---- what the promises come to for a frame that is ready
 
 found-light : (n : ℕ) (a : Rgb) (r : Found) → r ≡ foundOr n a → n ≡ 0 → r ≡ Light a
-found-light zero a r e z = e
-found-light (suc n) a r e z = absurd (let y : ⊥ = omega arith in y)
+found-light n a r e z = e ∙ sym (or-done Light Refused n a z)
 
 same-light : (a b : Rgb) → Light a ≡ Light b → a ≡ b
 same-light a b e = cc
@@ -76,21 +77,17 @@ the-light n a b r e z q = same-light a b (sym q ∙ found-light n b r e z)
 pub no-refusal : (n m : ℕ) (b : Rgb) (r : Found) → r ≡ foundOr n b → n ≡ 0 → r ≡ Refused m → ⊥
 no-refusal n m b r e z q = let w : Light b ≡ Refused m = sym (found-light n b r e z) ∙ q in let y : _≡_ {A = ℕ} 0 1 = cc in omega arith
 
-pub new-state : (n : ℕ) (m new old : Lent) → m ≡ unless n new old → n ≡ 0 → m ≡ new
-new-state zero m new old e z = e
-new-state (suc n) m new old e z = absurd (let y : ⊥ = omega arith in y)
-
 pub all-shown : (z : Size) (k : Settings) (frame : List ℕ) (a : Rgb) (entries picture : List ℕ) (n : ℕ) (out mid out′ : List ℕ) (at end : ℕ)
     → a ≡ light (described z) k (pixels (described z) frame) → n ≡ cells z
-    → entries ≡ clear (described z) k a frame .map → picture ≡ clear (described z) k a frame .picture
+    → entries ≡ clear (handed z k a) frame .map → picture ≡ clear (handed z k a) frame .picture
     → Wrote (lightLine a) out 0 mid at → Wrote (outs n entries picture) mid at out′ end → Wrote (shown z k frame) out 0 out′ end
 unfolding shown
 all-shown z k frame a entries picture n out mid out′ at end ea en ee ep w v =
     let b : Rgb = light (described z) k (pixels (described z) frame) in
-    let s : State = clear (described z) k b frame in
+    let s : State = clear (handed z k b) frame in
     let e : lightLine a ++ outs n entries picture ≡ lightLine b ++ outs (cells z) (s .map) (s .picture) =
     ap₂ (λ (x y : List ℕ). lightLine a ++ outs n x y) ee ep
-    ∙ ap₂ (λ (x : Rgb) (m : ℕ). lightLine x ++ outs m (clear (described z) k x frame .map) (clear (described z) k x frame .picture)) ea en in
+    ∙ ap₂ (λ (x : Rgb) (m : ℕ). lightLine x ++ outs m (clear (handed z k x) frame .map) (clear (handed z k x) frame .picture)) ea en in
     subst (λ (l : List ℕ). Wrote l out 0 out′ end) e (then w v)
 
 module _ (z : Size) (k : Settings) (l : Lent) (out : ℕ)
@@ -103,7 +100,7 @@ module _ (z : Size) (k : Settings) (l : Lent) (out : ℕ)
   never n q = absurd (lightless n q)
 
   pub finished : (a : Rgb) (b : Answer) (m : Lent) (before mid after : List ℕ) (at end : ℕ) → r ≡ Light a → length work′ ≡ length (l .work)
-      → Clears z k a (record { frame = l .frame; map = l .map; picture = l .picture; work = work′ }) b m → length (m .map) ≡ length (l .map)
+      → Clears (handed z k a) (lentOf (l .frame) (l .map) (l .picture) work′) b m → length (m .map) ≡ length (l .map)
       → Wrote (lightLine a) before 0 mid at → Wrote (outs (length (m .map)) (m .map) (m .picture)) mid at after end
       → Wrote (shown z k (l .frame)) before 0 after end
   finished a b m before mid after at end q kept cleared same w v =
@@ -112,9 +109,9 @@ module _ (z : Size) (k : Settings) (l : Lent) (out : ℕ)
       let good : badLight a ≡ false = ap badLight ea ∙ light-good (described z) k (pixels (described z) (l .frame)) in
       let ready′ : Ready z k (length (l .frame)) (length (l .map)) (length (l .picture)) (length work′) out =
       subst (λ (n : ℕ). Ready z k (length (l .frame)) (length (l .map)) (length (l .picture)) n out) (sym kept) ready in
-      let state : m ≡ lent (clear (described z) k a (l .frame)) (wiped (described z) work′) =
-      new-state (refuseClear z k a (length (l .frame)) (length (l .map)) (length (l .picture)) (length work′)) m _ _ (cleared .after)
-      (accept-clear z k _ _ _ _ out ready′ a good) in
+      let p = handed z k a in
+      let old = lentOf (l .frame) (l .map) (l .picture) work′ in
+      let state : m ≡ afterClear p old = cleared .after ∙ sym (made (noClear p old) (afterClear p old) old (accept-clear z k _ _ _ _ out ready′ a good)) in
       all-shown z k (l .frame) a (m .map) (m .picture) (length (m .map)) before mid after at end ea (same ∙ ready .entries-is)
       (ap (λ (x : Lent). x .map) state) (ap (λ (x : Lent). x .picture) state) w v
 

@@ -8,6 +8,7 @@ use Rattle.rules.specs.declared.Settings.{Settings}
 use Rattle.rules.specs.declared.Rgb.{Rgb}
 use Rattle.rules.specs.Window.{from, flat}
 use Rattle.rules.specs.Light.{light}
+use Rattle.rules.specs.Setup.{handed}
 use Rattle.rules.specs.Buffers.{pixels, clear}
 use Rattle.fields.specs.Words.{bytes}
 use Rattle.fields.specs.Fields.{split}
@@ -44,7 +45,7 @@ badLine n l = row (bytes "bad") (n ∷ l ∷ [])
 unfoldable pub shown : Size → Settings → List ℕ → List ℕ
 shown z k frame =
     let a = light (described z) k (pixels (described z) frame) in
-    let s = clear (described z) k a frame in
+    let s = clear (handed z k a) frame in
     lightLine a ++ outs (cells z) (s .map) (s .picture)
 
 -- ---- the whole

@@ -2,7 +2,7 @@
 use mathlib.Core.Path.{_≡_, sym, _∙_}
 use lib.ListN.{length}
 use borrow.Author.Needs.{needs}
-use Rattle.judge.proofs.Accepted.{refused, done, kept, made}
+use Rattle.rules.proofs.Answers.{refused, done, kept, made}
 use Rattle.depth.specs.Promise.{refuseDepths}
 use Rattle.depth.proofs.Accepted.{accepted}
 use Rattle.depth.proofs.depths.Statement.{statement}

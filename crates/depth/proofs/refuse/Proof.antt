@@ -1,8 +1,6 @@
 -- `depth::refuse` meets its contract: a size that is refused, or else the tests after it, joined by equations. Assumes nothing.
 use mathlib.Core.Path.{_≡_, sym, _∙_}
 use mathlib.Core.Bool.{false}
-use Rattle.rules.specs.Shape.{described}
-use Rattle.rules.specs.Good.{GoodSize}
 use Rattle.rules.specs.Refusals.{badSize}
 use Rattle.rules.proofs.Good.{size-good}
 use Rattle.depth.specs.Promise.{refuseDepths}
@@ -12,9 +10,6 @@ use Rattle.depth.proofs.refuse.Tie as tie
 small : (c : tie.Else1) → badSize (c .before .before .before .args .z) ≡ false
 small c = sym (c .before .wrong-size .ensures) ∙ c .if1 .left
 
-good : (c : tie.Else1) → GoodSize (described (c .before .before .before .args .z))
-good c = size-good _ (small c)
-
 wrong-size-requires : tie.Need-wrong-size-requires
 wrong-size-requires c κs = tt
 
@@ -23,10 +18,10 @@ unfolding refuseDepths
 returns c = rw (sym (c .before .wrong-size .ensures) ∙ c .if1 .taken)
 
 wrong-map-requires : tie.Need-wrong-map-requires
-wrong-map-requires c κs = good c
+wrong-map-requires c κs = size-good _ (small c)
 
 wrong-map-requires-2 : tie.Need-wrong-map-requires-2
-wrong-map-requires-2 c κs = good (c .before)
+wrong-map-requires-2 c κs = size-good _ (small (c .before))
 
 either-requires : tie.Need-either-requires
 either-requires c κs = tt
@@ -34,24 +29,12 @@ either-requires c κs = tt
 wrong-entries-requires : tie.Need-wrong-entries-requires
 wrong-entries-requires c κs = tt
 
-given-requires : tie.Need-given-requires
-given-requires c κs = tt
-
-given-requires-2 : tie.Need-given-requires-2
-given-requires-2 c κs = tt
+first-of-requires : tie.Need-first-of-requires
+first-of-requires c κs = tt
 
 returns-2 : tie.Need-returns-2
 unfolding refuseDepths
-returns-2 c =
-    rw (
-      small (c .before .before .before .before .before .before),
-      c .given2 .ensures,
-      c .before .given .ensures,
-      c .before .before .wrong-entries .ensures,
-      c .before .before .before .either .ensures,
-      c .before .before .before .before .wrong-map2 .ensures,
-      c .before .before .before .before .before .wrong-map .ensures,
-    )
+returns-2 c = rw (small (c .before .before .before .before .before)) (cc)
 
 pub refuse-spec : {M : Type 1} → statement M
 refuse-spec =
@@ -63,6 +46,5 @@ refuse-spec =
     wrong-map-requires-2
     either-requires
     wrong-entries-requires
-    given-requires
-    given-requires-2
+    first-of-requires
     returns-2)

@@ -4,7 +4,8 @@ use native.Mathlib.Omega.{arith}
 use borrow.Author.Needs.{needs}
 use Rattle.rules.specs.Refusals.{refuseBand}
 use Rattle.rules.specs.declared.Band.the-variants as variant
-use Rattle.judge.proofs.Accepted.{Bandable, band-accepted, band-refused, band-done}
+use Rattle.rules.proofs.Answers.{or-refused, or-done}
+use Rattle.refusals.proofs.Accepted.{AcceptedBand, band-accepted}
 use Rattle.haze.proofs.band.Statement.{statement}
 use Rattle.haze.proofs.band.Tie as tie
 
@@ -15,16 +16,16 @@ refuse-band-requires : tie.Need-refuse-band-requires
 refuse-band-requires c κs = search needs
 
 returns : tie.Need-returns
-returns c = record { answer = band-refused _ _ _ (c .before .refuse-band .ensures) (c .if1 .taken) }
+returns c = record { answer = or-refused variant.Figure variant.Refused _ _ _ (c .before .refuse-band .ensures) (c .if1 .taken) }
 
 figure-requires : tie.Need-figure-requires
 figure-requires c κs =
     let s = c .before .before .before .args in
-    let k : Bandable (s .z) (s .map .now) (s .from) (s .to) = band-accepted _ _ _ _ (none c) in
+    let k : AcceptedBand (s .z) (s .map .now) (s .from) (s .to) = band-accepted _ _ _ _ (none c) in
     (k .size, k .entries, omega (arith, k .some), k .inside)
 
 returns-2 : tie.Need-returns-2
-returns-2 c = record { answer = ap variant.Figure (c .figure .ensures) ∙ band-done _ _ (none (c .before)) }
+returns-2 c = record { answer = ap variant.Figure (c .figure .ensures) ∙ or-done variant.Figure variant.Refused _ _ (none (c .before)) }
 
 pub band-spec : {M : Type 1} → statement M
 band-spec = tie.close (tie.spec refuse-band-requires returns figure-requires returns-2)

@@ -3,14 +3,15 @@ use mathlib.Core.Path.{_≡_, sym, _∙_}
 use lib.ListN.{length}
 use borrow.Author.Needs.{needs}
 use Rattle.rules.specs.Refusals.{refuseHaze}
-use Rattle.judge.proofs.Accepted.{Hazeable, haze-accepted, refused, done, kept, made}
+use Rattle.rules.proofs.Answers.{refused, done, kept, made}
+use Rattle.refusals.proofs.Accepted.{AcceptedHaze, haze-accepted}
 use Rattle.haze.proofs.haze.Statement.{statement}
 use Rattle.haze.proofs.haze.Tie as tie
 
 none : (c : tie.Else1) → let s = c .before .before .before .before .before .args in refuseHaze (s .z) (s .a) (length (s .clean .now)) (s .map .now) (length (s .hazed .now)) ≡ 0
 none c = sym (c .before .refuse-haze .ensures) ∙ c .if1 .left
 
-known : (c : tie.Else1) → let s = c .before .before .before .before .before .args in Hazeable (s .z) (s .a) (length (s .clean .now)) (s .map .now) (length (s .hazed .now))
+known : (c : tie.Else1) → let s = c .before .before .before .before .before .args in AcceptedHaze (s .z) (s .a) (length (s .clean .now)) (s .map .now) (length (s .hazed .now))
 known c = haze-accepted _ _ _ _ _ (none c)
 
 refuse-haze-requires : tie.Need-refuse-haze-requires

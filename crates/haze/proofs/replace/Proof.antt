@@ -1,27 +1,27 @@
 -- `haze::replace` meets its promise: by its refusal number. Assumes nothing.
 use mathlib.Core.Path.{_≡_, _∙_, sym}
 use Prim.Native.Nat.{ℕ}
-use lib.ListN.{length}
-use Rattle.rules.specs.Shape.{described}
-use Rattle.rules.specs.Buffers.{replace}
-use Rattle.rules.specs.Promise.{Lent, state, lent, wiped, noReplace}
+use Rattle.rules.specs.Setup.{Setup, handed}
+use Rattle.rules.specs.Promise.{Lent, lentOf, noReplace, afterReplace}
+use Rattle.rules.proofs.Answers.{refused, done, kept, made}
 use Rattle.haze.proofs.Accepted.{given, loan}
-use Rattle.judge.proofs.Accepted.{replace-accepted, refused, done, kept, made}
+use Rattle.refusals.proofs.Accepted.{replace-accepted}
 use borrow.Author.Needs.{needs}
 use Rattle.haze.proofs.replace.Statement.{statement}
 use Rattle.haze.proofs.replace.Tie as tie
 
--- what stood in the buffers, the call's refusal number, and what an accepted call leaves
+-- the setup, what stood in the buffers, the call's refusal number, and what an accepted call leaves
+abbrev setup : tie.Start → Setup
+setup s = handed (s .args .z) (s .args .k) (s .args .a)
+
 abbrev old : tie.Start → Lent
-old s = record { frame = s .args .frame .now; map = s .args .map .now; picture = s .args .picture .now; work = s .args .work .now }
+old s = lentOf (s .args .frame .now) (s .args .map .now) (s .args .picture .now) (s .args .work .now)
 
 abbrev number : tie.Start → ℕ
-number s = noReplace (s .args .z) (s .args .k) (s .args .a) (s .args .c) (s .args .new .now) (old s)
+number s = noReplace (setup s) (s .args .c) (s .args .new .now) (old s)
 
 abbrev new : tie.Start → Lent
-new s =
-    let d = s .args in
-    lent (replace (described (d .z)) (d .k) (d .a) (d .c) (d .new .now) (state (old s))) (wiped (described (d .z)) (d .work .now))
+new s = afterReplace (setup s) (s .args .c) (s .args .new .now) (old s)
 
 -- an accepted call's number is 0
 zero : (i : tie.Else1) → number (i .before .before .before .before .before .before) ≡ 0
@@ -44,9 +44,8 @@ replace-whole-requires : tie.Need-replace-whole-requires
 replace-whole-requires c κs =
     let i = c .before .before .before .before in
     let s = i .before .before .before .before .before .before in
-    let d = s .args in
-    let n = replace-accepted (d .z) (d .k) (d .a) (d .c) (length (d .new .now)) (length (d .frame .now)) (length (d .map .now)) (length (d .picture .now)) (length (d .work .now)) (zero i) in
-    (given (d .z) (d .k) (d .a) (old s) (n .clear), (loan (d .z) (d .k) (d .a) (old s) (n .clear), (n .rect, n .pixels)))
+    let n = replace-accepted (setup s) (s .args .c) (s .args .new .now) (old s) (zero i) in
+    (given (setup s) (old s) (n .clear), (loan (setup s) (old s) (n .clear), (n .rect, n .pixels)))
 
 same-length : tie.Need-same-length
 same-length c = search needs

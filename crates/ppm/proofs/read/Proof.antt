@@ -5,9 +5,10 @@ use borrow.Author.Needs.{needs}
 use Prim.Native.Nat.{_-_}
 use lib.ListN.{length, take, drop}
 use Rattle.fields.proofs.Written.{wrote-all}
-use Rattle.judge.proofs.Accepted.{kept, made}
+use Rattle.rules.proofs.Answers.{or-refused, or-done, kept, made}
+use Rattle.ppm.specs.declared.Taken.the-variants as taken
 use Rattle.ppm.specs.Promise.{refuseRead}
-use Rattle.ppm.proofs.Reading.{Opened, opened, bad-read, read-number, lent-fits, copied, frame-refused, frame-taken}
+use Rattle.ppm.proofs.Reading.{Opened, opened, bad-read, read-number, lent-fits, copied}
 use Rattle.ppm.proofs.Said.{size-said}
 use Rattle.ppm.proofs.read.Statement.{statement}
 use Rattle.ppm.proofs.read.Tie as tie
@@ -35,7 +36,7 @@ number c = c .refuse-read .ensures ∙ read-number (known (c .before)) _
 returns : tie.Need-returns
 returns c =
     let e = number (c .before) in
-    record { answer = frame-refused _ _ _ e (c .if1 .taken); after = kept _ _ _ _ e (c .if1 .taken) }
+    record { answer = or-refused taken.Frame taken.Refused _ _ _ e (c .if1 .taken); after = kept _ _ _ _ e (c .if1 .taken) }
 
 sub-put-word : tie.Need-sub-put-word
 sub-put-word c = known (c .before .before .before) .within
@@ -70,14 +71,14 @@ returns-2 c =
     let o = known (d .before .before) in
     let e = none d in
     record {
-      answer = frame-taken _ _ _ (sym (size-said (o .says))) e;
+      answer = ap taken.Frame (sym (size-said (o .says))) ∙ or-done taken.Frame taken.Refused _ _ e;
       after = wrote-all (c .before .before .put-word .ensures) (fits d) ∙ copied o ∙ made _ _ _ e;
     }
 
 returns-3 : tie.Need-returns-3
 returns-3 c =
     let e = bad-read _ _ (sym (c .before .before .header .ensures) ∙ c .enum-told .given .1) in
-    record { answer = frame-refused 11 _ _ (sym e) (λ f. omega arith); after = kept 11 _ _ _ (sym e) (λ f. omega arith) }
+    record { answer = or-refused taken.Frame taken.Refused 11 _ _ (sym e) (λ f. omega arith); after = kept 11 _ _ _ (sym e) (λ f. omega arith) }
 
 pub read-spec : {M : Type 1} → statement M
 read-spec =

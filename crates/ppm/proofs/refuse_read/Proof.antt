@@ -1,8 +1,6 @@
 -- `ppm::refuse_read` meets its contract: a size that is refused, or else the tests after it, joined by equations. Assumes nothing.
 use mathlib.Core.Path.{_≡_, sym, _∙_}
 use mathlib.Core.Bool.{false}
-use Rattle.rules.specs.Shape.{described}
-use Rattle.rules.specs.Good.{GoodSize}
 use Rattle.rules.specs.Refusals.{badSize}
 use Rattle.rules.proofs.Good.{size-good}
 use Rattle.ppm.proofs.refuse_read.Statement.{statement}
@@ -11,9 +9,6 @@ use Rattle.ppm.proofs.refuse_read.Tie as tie
 small : (c : tie.Else1) → badSize (c .before .before .args .z) ≡ false
 small c = sym (c .before .wrong-size .ensures) ∙ c .if1 .left
 
-good : (c : tie.Else1) → GoodSize (described (c .before .before .args .z))
-good c = size-good _ (small c)
-
 wrong-size-requires : tie.Need-wrong-size-requires
 wrong-size-requires c κs = tt
 
@@ -21,30 +16,16 @@ returns : tie.Need-returns
 returns c = rw (sym (c .before .wrong-size .ensures) ∙ c .if1 .taken)
 
 wrong-frame-requires : tie.Need-wrong-frame-requires
-wrong-frame-requires c κs = good c
-
-given-requires : tie.Need-given-requires
-given-requires c κs = tt
+wrong-frame-requires c κs = size-good _ (small c)
 
 wrong-frame-requires-2 : tie.Need-wrong-frame-requires-2
-wrong-frame-requires-2 c κs = good (c .before .before)
+wrong-frame-requires-2 c κs = size-good _ (small (c .before))
 
-given-requires-2 : tie.Need-given-requires-2
-given-requires-2 c κs = tt
-
-given-requires-3 : tie.Need-given-requires-3
-given-requires-3 c κs = tt
+first-of-requires : tie.Need-first-of-requires
+first-of-requires c κs = tt
 
 returns-2 : tie.Need-returns-2
-returns-2 c =
-    rw (
-      small (c .before .before .before .before .before),
-      c .given3 .ensures,
-      c .before .given2 .ensures,
-      c .before .before .wrong-frame2 .ensures,
-      c .before .before .before .given .ensures,
-      c .before .before .before .before .wrong-frame .ensures,
-    )
+returns-2 c = rw (small (c .before .before .before)) (cc)
 
 pub refuse-read-spec : {M : Type 1} → statement M
 refuse-read-spec =
@@ -53,8 +34,6 @@ refuse-read-spec =
     wrong-size-requires
     returns
     wrong-frame-requires
-    given-requires
     wrong-frame-requires-2
-    given-requires-2
-    given-requires-3
+    first-of-requires
     returns-2)

@@ -18,32 +18,22 @@ returns : tie.Need-returns
 unfolding refuseWrite
 returns c = rw (sym (c .before .wrong-size .ensures) ∙ c .if1 .taken)
 
+wrong-frame-requires : tie.Need-wrong-frame-requires
+wrong-frame-requires c κs = size-good _ (small c)
+
 length-requires : tie.Need-length-requires
 length-requires c κs = tt
 
 -- the length of the file, of a size that is not refused
-whole : (c : tie.After-length) → c .length .result ≡ long (c .before .before .before .args .z)
-whole c = c .length .ensures ∙ rw (small (c .before))
+whole : (c : tie.After-length) → c .length .result ≡ long (c .before .before .before .before .args .z)
+whole c = c .length .ensures ∙ rw (small (c .before .before))
 
-given-requires : tie.Need-given-requires
-given-requires c κs = tt
-
-wrong-frame-requires : tie.Need-wrong-frame-requires
-wrong-frame-requires c κs = size-good _ (small (c .before .before))
-
-given-requires-2 : tie.Need-given-requires-2
-given-requires-2 c κs = tt
+first-of-requires : tie.Need-first-of-requires
+first-of-requires c κs = tt
 
 returns-2 : tie.Need-returns-2
 unfolding refuseWrite
-returns-2 c =
-    rw (
-      small (c .before .before .before .before),
-      c .given2 .ensures,
-      c .before .wrong-frame .ensures,
-      c .before .before .given .ensures,
-      whole (c .before .before .before),
-    )
+returns-2 c = rw (small (c .before .before .before)) (cc (whole (c .before)))
 
 pub refuse-write-spec : {M : Type 1} → statement M
 refuse-write-spec =
@@ -51,8 +41,7 @@ refuse-write-spec =
     (tie.spec
     wrong-size-requires
     returns
-    length-requires
-    given-requires
     wrong-frame-requires
-    given-requires-2
+    length-requires
+    first-of-requires
     returns-2)

@@ -1,8 +1,10 @@
 -- `ppm::size` keeps its promise: the number of the refusal, or the size that the header says. Assumes nothing.
-use mathlib.Core.Path.{sym, _∙_}
+use mathlib.Core.Path.{sym, ap, _∙_}
 use native.Mathlib.Omega.{arith}
 use borrow.Author.Needs.{needs}
-use Rattle.ppm.proofs.Reading.{Opened, opened, bad-size, size-number, frame-refused, frame-taken}
+use Rattle.rules.proofs.Answers.{or-refused, or-done}
+use Rattle.ppm.specs.declared.Taken.the-variants as taken
+use Rattle.ppm.proofs.Reading.{Opened, opened, bad-size, size-number}
 use Rattle.ppm.proofs.Said.{size-said}
 use Rattle.ppm.proofs.size.Statement.{statement}
 use Rattle.ppm.proofs.size.Tie as tie
@@ -24,7 +26,7 @@ refuse-read-requires : tie.Need-refuse-read-requires
 refuse-read-requires c κs = search needs
 
 returns : tie.Need-returns
-returns c = record { answer = frame-refused _ _ _ (c .before .refuse-read .ensures ∙ size-number (known (c .before .before))) (c .if1 .taken) }
+returns c = record { answer = or-refused taken.Frame taken.Refused _ _ _ (c .before .refuse-read .ensures ∙ size-number (known (c .before .before))) (c .if1 .taken) }
 
 enum-told : tie.Need-enum-told
 enum-told c = search needs
@@ -32,11 +34,11 @@ enum-told c = search needs
 returns-2 : tie.Need-returns-2
 returns-2 c =
     let o = known (c .before .before) in
-    record { answer = frame-taken _ _ _ (sym (size-said (o .says))) (sym (c .before .refuse-read .ensures ∙ size-number o) ∙ c .if1 .left) }
+    record { answer = ap taken.Frame (sym (size-said (o .says))) ∙ or-done taken.Frame taken.Refused _ _ (sym (c .before .refuse-read .ensures ∙ size-number o) ∙ c .if1 .left) }
 
 returns-3 : tie.Need-returns-3
 returns-3 c =
-    record { answer = frame-refused 11 _ _ (sym (bad-size _ (sym (c .before .before .header .ensures) ∙ c .enum-told .given .1))) (λ e. omega arith) }
+    record { answer = or-refused taken.Frame taken.Refused 11 _ _ (sym (bad-size _ (sym (c .before .before .header .ensures) ∙ c .enum-told .given .1))) (λ e. omega arith) }
 
 pub size-spec : {M : Type 1} → statement M
 size-spec =

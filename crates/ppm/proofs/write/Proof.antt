@@ -3,7 +3,7 @@ use mathlib.Core.Path.{_≡_, sym, _∙_}
 use native.Mathlib.Omega.{arith}
 use borrow.Author.Needs.{needs}
 use lib.ListN.{length}
-use Rattle.judge.proofs.Accepted.{refused, done, kept, made}
+use Rattle.rules.proofs.Answers.{refused, done, kept, made}
 use Rattle.ppm.specs.Promise.{refuseWrite}
 use Rattle.fields.proofs.Written.{then, wrote-all}
 use Rattle.ppm.proofs.Long.{head-long, long-is}

@@ -1,27 +1,29 @@
--- `judge::refuse_replace` meets its contract: its tests are Clear's, then those of the rectangle. Assumes nothing.
-use mathlib.Core.Path.{_≡_, sym, _∙_}
+-- `refusals::refuse_replace` meets its contract: its tests are Clear's, then those of the rectangle. Assumes nothing.
+use mathlib.Core.Path.{_≡_, refl, sym, _∙_}
 use Prim.Native.Nat.{ℕ}
 use Rattle.rules.specs.declared.Size.{Size}
 use Rattle.rules.specs.declared.Settings.{Settings}
 use Rattle.rules.specs.declared.Rgb.{Rgb}
 use Rattle.rules.specs.declared.Rect.{Rect}
 use Rattle.rules.specs.Refusals.{first, testsClear, refuseClear, refuseReplace}
-use Rattle.rules.proofs.Exactly.{clear-exact}
-use Rattle.judge.specs.Past.{restReplace}
-use Rattle.judge.proofs.Laws.{joined-some, joined-none}
-use Rattle.judge.proofs.Accepted.{clear-accepted}
-use Rattle.judge.proofs.refuse_replace.Statement.{statement}
-use Rattle.judge.proofs.refuse_replace.Tie as tie
+use Rattle.rules.proofs.Good.{size-good}
+use Rattle.rules.proofs.Exactly.{None, accepted, joined-some, joined-none}
+use Rattle.refusals.specs.Past.{restReplace}
+use Rattle.refusals.proofs.refuse_replace.Statement.{statement}
+use Rattle.refusals.proofs.refuse_replace.Tie as tie
 
 module _ (z : Size) (k : Settings) (a : Rgb) (c : Rect) (new frame map picture work : ℕ) where
   early : (n : ℕ) → n ≡ refuseClear z k a frame map picture work → (n ≡ 0 → ⊥) → n ≡ refuseReplace z k a c new frame map picture work
   unfolding refuseClear refuseReplace
   early n e h = joined-some (testsClear z k a frame map picture work) (restReplace z c new) n e h
 
+  free : refuseClear z k a frame map picture work ≡ 0 → None (testsClear z k a frame map picture work)
+  unfolding refuseClear
+  free e = accepted (testsClear z k a frame map picture work) refl e
+
   late : refuseClear z k a frame map picture work ≡ 0 → first (restReplace z c new) ≡ refuseReplace z k a c new frame map picture work
   unfolding refuseReplace
-  late e =
-      sym (joined-none (testsClear z k a frame map picture work) (restReplace z c new) (clear-exact z k a frame map picture work .free e))
+  late e = sym (joined-none (testsClear z k a frame map picture work) (restReplace z c new) (free e))
 
 refuse-clear-requires : tie.Need-refuse-clear-requires
 refuse-clear-requires c κs = tt
@@ -34,7 +36,9 @@ returns c =
 refuse-rect-requires : tie.Need-refuse-rect-requires
 refuse-rect-requires c κs =
     let s = c .before .before .args in
-    clear-accepted (s .z) (s .k) (s .a) (s .frame) (s .map) (s .picture) (s .work) (sym (c .before .refuse-clear .ensures) ∙ c .if1 .left) .size
+    size-good
+    (s .z)
+    (free (s .z) (s .k) (s .a) (s .c) (s .new) (s .frame) (s .map) (s .picture) (s .work) (sym (c .before .refuse-clear .ensures) ∙ c .if1 .left) .0)
 
 returns-2 : tie.Need-returns-2
 returns-2 c =

@@ -1,2 +1,0 @@
--- The definitions that the judge's contracts cite.
-pub mod Past

@@ -1,0 +1,2 @@
+-- What the callers know of a call that is not refused.
+pub mod Accepted

@@ -1,0 +1,26 @@
+-- `refusals::wrong_loan` meets its contract. Assumes nothing.
+use borrow.Author.Needs.{needs}
+use Rattle.refusals.proofs.wrong_loan.Statement.{statement}
+use Rattle.refusals.proofs.wrong_loan.Tie as tie
+
+wrong-frame-requires : tie.Need-wrong-frame-requires
+wrong-frame-requires c κs = search needs
+
+wrong-map-requires : tie.Need-wrong-map-requires
+wrong-map-requires c κs = search needs
+
+either-requires : tie.Need-either-requires
+either-requires c κs = tt
+
+wrong-work-requires : tie.Need-wrong-work-requires
+wrong-work-requires c κs = search needs
+
+either-requires-2 : tie.Need-either-requires-2
+either-requires-2 c κs = tt
+
+returns : tie.Need-returns
+returns c = cc
+
+pub wrong-loan-spec : {M : Type 1} → statement M
+wrong-loan-spec =
+    tie.close (tie.spec wrong-frame-requires wrong-map-requires either-requires wrong-work-requires either-requires-2 returns)
