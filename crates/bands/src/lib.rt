@@ -1,13 +1,11 @@
-// The band figure: mean and least transmission of a band of rows as two doubles, and a reader of it.
+// The band figure: mean and least transmission of a band of rows as two doubles.
 ghost use mathlib.Core.Path.{_≡_};
-ghost use mathlib.Core.Bool.{_&&_};
 ghost use Prim.Native.Nat.{_*_, _^_, _≤_, _<_, min};
 ghost use lib.ListN.{length};
 ghost use Rattle.rules.specs.Shape.{described};
 ghost use Rattle.rules.specs.Good.{GoodSize};
 ghost use Rattle.rules.specs.Window.{least, total};
 ghost use Rattle.rules.specs.Picture.{quotient, figure as figureIn};
-ghost use Rattle.bands.specs.Steer.{steerable};
 use rules::Figure;
 use rules::Size;
 
@@ -64,17 +62,4 @@ pub fn figure(z: Size, map: &[u16], from: usize, to: usize) -> Figure
     let mean = divided(sum_of(band), 10000 * (band.len() as u64));
     let least = divided(least_of(band) as u64, 10000);
     Figure { mean, least }
-}
-
-fn both(a: bool, b: bool) -> bool
-    ensures { λ r. ⌜ r ≡ (a && b) ⌝ }
-{
-    if a { b } else { false }
-}
-
-// Whether a band is clear enough to steer on: a mean of at least 0.25, and no pixel below 0.05.
-pub fn clear_enough(f: Figure) -> bool
-    ensures { λ r. ⌜ r ≡ steerable f ⌝ }
-{
-    both(0.25 <= f.mean, 0.05 <= f.least)
 }
