@@ -8,7 +8,7 @@ ghost use Rattle.planes.specs.Plane.{plane, LineCleared, EdgeCleared, Ed
 ghost use Rattle.planes.specs.Put.{place, PixelPut};
 
 // Where the pixel (y, x) stands in plane j.
-pub fn place_of(w: usize, h: usize, j: usize, y: usize, x: usize) -> usize
+fn place_of(w: usize, h: usize, j: usize, y: usize, x: usize) -> usize
     requires { ⌜ (y < h) × (x < w) × ((j + 1) * plane w h < 2 ^ 64) ⌝ }
     ensures { λ i. ⌜ i ≡ place w h j y x ⌝ }
 {

@@ -4,7 +4,7 @@
 use mathlib.Core.Path.{_≡_, refl, ap, ap₂, _∙_, sym}
 use mathlib.Core.List.{List, [], _∷_, _++_, foldr, map}
 use Prim.Native.Nat.{ℕ, zero, suc, _+_, _*_, min}
-use native.Mathlib.Nat.{add-zero, zero-add, add-suc, suc-add, add-assoc, add-comm}
+use native.Mathlib.Nat.{add-zero, zero-add, add-suc, suc-add}
 use native.Mathlib.Omega.{arith}
 use lib.ListN.{length, length-append}
 use lib.IntN.{ℤ, pos, _+ℤ_, +ℤ-assoc, +ℤ-comm}
@@ -126,7 +126,7 @@ pub window-square : {A : Type 0} (z : Shape) (q : ℕ) (f : Plane A) (y x : ℕ)
 unfolding window
 window-square z q f y x = refl
 
--- the three uses: a square's least value by rows, and the corners of the two kinds of sums
+-- the uses: a square's least value by rows, its sum, and the corners of sums of integers
 pub least-square : (top w h q : ℕ) (f : Plane ℕ) (y x : ℕ)
     → least top (square w h q f y x) ≡ Σ min top (low q y) (many h q y) (λ v. Σ min top (low q x) (many w q x) (λ u. f v u))
 least-square top = square-fold min top (λ a b c. omega arith) (λ a b. omega arith) (omega arith)
@@ -141,10 +141,6 @@ total-square g w h q f y x =
 pub total-pos : {A : Type 0} (g : A → ℕ) (l : List A) → totalZ (λ i. pos (g i)) l ≡ pos (total g l)
 total-pos g [] = refl
 total-pos g (i ∷ l) = ap (λ (n : ℤ). pos (g i) +ℤ n) (total-pos g l)
-
-pub cornersN : (f : Plane ℕ) (y n x m : ℕ)
-    → integral _+_ 0 f (y + n) (x + m) + integral _+_ 0 f y x ≡ Σ _+_ 0 y n (λ v. Σ _+_ 0 x m (λ u. f v u)) + integral _+_ 0 f y (x + m) + integral _+_ 0 f (y + n) x
-cornersN = corners _+_ 0 add-assoc add-comm refl
 
 pub cornersZ : (f : Plane ℤ) (y n x m : ℕ)
     → integral _+ℤ_ (pos 0) f (y + n) (x + m) +ℤ integral _+ℤ_ (pos 0) f y x

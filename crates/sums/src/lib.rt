@@ -23,7 +23,7 @@ fn integrate_row(work: &mut [i64], up: usize, at: usize, n: usize)
 }
 
 // The plane at base becomes its integral image, in place.
-pub fn integrate(work: &mut [i64], base: usize, w: usize, h: usize)
+fn integrate(work: &mut [i64], base: usize, w: usize, h: usize)
     requires { ⌜ Summable (now work) base w h ⌝ }
     ensures { λ _. ⌜ Integrated (now (work .entry)) (now (work .exit)) base w h ⌝ }
 {
@@ -67,7 +67,7 @@ pub fn past_of(i: usize, r: usize, n: usize) -> usize
 }
 
 // The sum over the rows y0 .. y1 and the columns x0 .. x1 (the last left out), from the integral image at base.
-pub fn window_sum(
+fn window_sum(
     work: &[i64],
     base: usize,
     w: usize,
