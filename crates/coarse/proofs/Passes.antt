@@ -18,7 +18,7 @@ use Rattle.planes.specs.Plane.{plane, Edged, SameFrom, EdgesCleared}
 use Rattle.planes.specs.Put.{place, PlanesPut}
 use Rattle.planes.specs.Stage.{Coarse}
 use Rattle.planes.proofs.Places.{cell-in, not-top, not-left}
-use Rattle.windows.specs.Plane.{Area, Shrunk}
+use Rattle.windows.specs.Plane.{Area, PlaneMin}
 use Rattle.coarse.specs.Ratios.{Ratios, value, coarsened}
 
 least-le : (l : List ℕ) → least 10000 l ≤ 10000
@@ -45,7 +45,7 @@ area l w h across down room =
 module _ (b : Shape) (k : Settings) (a : Rgb) (f : Plane Rgb) (l l0 l1 l2 : List ℤ) (count : ℕ)
     (e0 : EdgesCleared l l0 (b .w) (b .h) 6)
     (e1 : PlanesPut l0 l1 (b .w) (b .h) 0 1 (λ _ y x. pos (leastRatio a (f y x))) (b .h))
-    (e2 : Shrunk l1 l2 (b .w + 2) (b .w + 1) (b .w) (b .h) (k .s) (6 * plane (b .w) (b .h)) count) where
+    (e2 : PlaneMin l1 l2 (b .w + 2) (b .w + 1) (b .w) (b .h) (k .s) (6 * plane (b .w) (b .h)) count) where
   abbrev w : ℕ
   w = b .w
 

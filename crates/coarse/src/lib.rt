@@ -21,7 +21,7 @@ use planes::put;
 use rules::Rgb;
 use rules::Settings;
 use rules::Size;
-use windows::shrink;
+use windows::minima;
 
 // The least ratio of the pixel at position p of the frame goes to the pixel (y, x).
 fn put_ratio(
@@ -122,6 +122,6 @@ pub fn prepare(
     let p = (h + 1) * (w + 1);
     clear_edges(work, w, h, 6);
     ratios(work, frame, z, b, top, left, a);
-    shrink(work, w + 2, w + 1, w, h, k.s, 6 * p);
+    minima(work, w + 2, w + 1, w, h, k.s, 6 * p);
     coarsen(work, w, h, k.omega);
 }

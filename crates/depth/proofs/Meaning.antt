@@ -1,5 +1,5 @@
 -- What a depth means: it falls with transmission (`falls`), it is the one number whose two neighbouring entries bound the transmission from both sides
--- (`bounds`, `bounds-one`), it counts steps of one hundredth (`enough`, `no-fewer`), and the entries stay near the exact powers (`near`). Assumes nothing.
+-- (`bounds`, `bounds-one`), it counts steps of one hundredth (`enough`, `no-fewer`), and the entries stay close to the exact powers (`close`). Assumes nothing.
 use mathlib.Core.Path.{_≡_, sym, ap, subst}
 use Prim.Native.Nat.{ℕ, zero, suc, _+_, _-_, _*_, _^_, _≤_, _<_}
 use native.Mathlib.Nat.{mul-le-mul-left, mul-le-mul-right, pow-succ'}
@@ -67,12 +67,12 @@ then-none-through t e = let b = bounds t .short (omega arith) in let f : entry (
 -- ---- beside the exact powers: rounding down at every step never takes off as much as 100
 
 -- entry k is at most 1,000,000,000 · (99/100)ᵏ, and that is below entry k + 100
-pub record Near (k x : ℕ) : Type 0 where
+pub record Close (k x : ℕ) : Type 0 where
   pub under : x * 100 ^ k ≤ 1000000000 * 99 ^ k
   pub over : 1000000000 * 99 ^ k < (x + 100) * 100 ^ k
 
-near-next : (k x : ℕ) → Near k x → Near (suc k) (step x)
-near-next k x n =
+close-next : (k x : ℕ) → Close k x → Close (suc k) (step x)
+close-next k x n =
     let P = 100 ^ k in
     let y = step x in
     let low : 100 * y * P ≤ 99 * x * P = mul-le-mul-right P (omega arith) in
@@ -82,6 +82,6 @@ near-next k x n =
       over = rw (pow-succ' 100 k, pow-succ' 99 k) (omega (arith, n .over));
     }
 
-pub near : (k : ℕ) → k < 918 → Near k (entry k)
-near zero h = rw first (record { under = leb→le _ _ tt; over = leb→le _ _ tt })
-near (suc k) h = subst (Near (suc k)) (sym (rule k h .0)) (near-next k (entry k) (near k (omega arith)))
+pub close : (k : ℕ) → k < 918 → Close k (entry k)
+close zero h = rw first (record { under = leb→le _ _ tt; over = leb→le _ _ tt })
+close (suc k) h = subst (Close (suc k)) (sym (rule k h .0)) (close-next k (entry k) (close k (omega arith)))

@@ -22,12 +22,12 @@ fn depth_by(table: &[u32], t: u16) -> u16
     requires { ⌜ now table ≡ thresholds ⌝ }
     ensures { λ r. ⌜ r ≡ depthOf t ⌝ }
 {
-    let reach = 100000 * (t as u64);
+    let bound = 100000 * (t as u64);
     let mut at = 0;
     let mut left = table.len();
     while left > 0 {
         let middle = at + (left - 1) / 2;
-        if (table[middle] as u64) > reach {
+        if (table[middle] as u64) > bound {
             at = middle + 1;
         }
         left /= 2;
@@ -40,10 +40,10 @@ fn fallen(table: &[u32], t: usize, from: usize) -> usize
     requires { ⌜ (now table ≡ thresholds) × (t ≤ 10000) × (depthOf t ≤ from) × (from ≤ 918) ⌝ }
     ensures { λ r. ⌜ r ≡ depthOf t ⌝ }
 {
-    let reach = 100000 * (t as u64);
+    let bound = 100000 * (t as u64);
     let mut at = from;
     while at > 0 {
-        if (table[at - 1] as u64) > reach {
+        if (table[at - 1] as u64) > bound {
             return at;
         }
         at -= 1;

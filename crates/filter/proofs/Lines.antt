@@ -24,7 +24,7 @@ use Rattle.filter.proofs.Samples.{most, moment-le, most-le}
 
 -- ---- the sums over a square
 
-module _ (l : List ℤ) (w h : ℕ) (S : Plane Sample) (i : Imaged l w h S) (r y x : ℕ) (near : r ≤ 60) (hy : y < h) (hx : x < w) where
+module _ (l : List ℤ) (w h : ℕ) (S : Plane Sample) (i : Imaged l w h S) (r y x : ℕ) (hr : r ≤ 60) (hy : y < h) (hx : x < w) where
   abbrev sq : List Sample
   sq = square w h r S y x
 
@@ -34,7 +34,7 @@ module _ (l : List ℤ) (w h : ℕ) (S : Plane Sample) (i : Imaged l w h S) (r y
   pub moment-readable : (j : ℕ) → j < 4 → Readable l (j * plane w h) w h r y x
   moment-readable j hj =
       let b : (j + 1) * plane w h ≤ 4 * plane w h = mul-le-mul-right (plane w h) (omega arith) in
-      readable l (j * plane w h) w h (λ v u. pos (moment j (S v u))) (λ v u p q. omega (arith, in-size j v u p q, most-le j)) (i .area) (omega (arith, i .room)) (i .sums j hj) r y x near hy hx
+      readable l (j * plane w h) w h (λ v u. pos (moment j (S v u))) (λ v u p q. omega (arith, in-size j v u p q, most-le j)) (i .area) (omega (arith, i .room)) (i .sums j hj) r y x hr hy hx
 
   pub moment-total : (j : ℕ) → totalZ (λ i. i) (square w h r (λ v u. pos (moment j (S v u))) y x) ≡ pos (total (moment j) sq)
   moment-total j = total-read (λ i. pos (moment j i)) w h r S y x ∙ total-pos (moment j) sq
@@ -44,13 +44,13 @@ module _ (l : List ℤ) (w h : ℕ) (S : Plane Sample) (i : Imaged l w h S) (r y
 
   pub total-fits : (j : ℕ) → total (moment j) sq ≤ 112003650000
   total-fits j =
-      let b : most j * length sq ≤ 7650000 * 14641 = mul-le-mul (most-le j) (square-few w h r S y x hy hx near) in
+      let b : most j * length sq ≤ 7650000 * 14641 = mul-le-mul (most-le j) (square-few w h r S y x hy hx hr) in
       omega (arith, total-le j)
 
   pub moments : Moments (length sq) (total (moment 1) sq) (total (moment 0) sq) (total (moment 2) sq) (total (moment 3) sq)
   moments = record {
     some = square-some w h r S y x hy hx;
-    few = square-few w h r S y x hy hx near;
+    few = square-few w h r S y x hy hx hr;
     g = total-le 1;
     t = total-le 0;
     gg = total-le 2;
@@ -103,4 +103,4 @@ module _ (l m : List ℤ) (w h : ℕ) (long : length m ≡ length l) (k : Kept l
 
   pub fit-still : (r e : ℕ) → FitIn l w h r e → FitIn m w h r e
   fit-still r e p =
-      record { images = record { of = p .images .of; imaged = imaged-still (p .images .of) (p .images .imaged); near = p .images .near }; some = p .some; most = p .most }
+      record { images = record { of = p .images .of; imaged = imaged-still (p .images .of) (p .images .imaged); r-most = p .images .r-most }; some = p .some; most = p .most }

@@ -44,7 +44,7 @@ module _ {w h r : ℕ} {f : Plane Line} {y x n : ℕ} {sa sb : ℤ} (s : Read w 
     read-some = rw n-is (square-some w h r f y x hy hx)
 
     pub read-few : r ≤ 60 → n ≤ 14641
-    read-few near = rw n-is (square-few w h r f y x hy hx near)
+    read-few hr = rw n-is (square-few w h r f y x hy hx hr)
 
     pub slopes-le : (B : ℕ) → ((v u : ℕ) → v < h → u < w → natAbs (f v u .a) ≤ B) → natAbs sa ≤ B * n
     slopes-le B le = rw (n-is, sa-is) (square-size w h r f y x hy hx (λ i. i .a) B le)
@@ -61,11 +61,11 @@ module _ {l : List ℤ} {z b : Shape} {top left : ℕ} {k : Settings} {a : Rgb} 
   pub slopes-readable : Readable l (4 * plane (b .w) (b .h)) (b .w) (b .h) (k .r) y x
   slopes-readable =
       readable l _ (b .w) (b .h) (λ v u. lines v u .a) (λ v u p q. omega (arith, lined .a-le v u p q)) (given-area given) (omega (arith, lined .room)) (lined .slopes) (k .r) y x
-      (given .settings .near) hy hx
+      (given .settings .r-most) hy hx
 
   pub offsets-readable : Readable l (5 * plane (b .w) (b .h)) (b .w) (b .h) (k .r) y x
   offsets-readable =
-      readable l _ (b .w) (b .h) (λ v u. lines v u .b) (lined .b-le) (given-area given) (omega (arith, lined .room)) (lined .offsets) (k .r) y x (given .settings .near) hy hx
+      readable l _ (b .w) (b .h) (λ v u. lines v u .b) (lined .b-le) (given-area given) (omega (arith, lined .room)) (lined .offsets) (k .r) y x (given .settings .r-most) hy hx
 
 -- the rules' refined value
 pub refined-is : (b : Shape) (k : Settings) (a : Rgb) (f : Plane Rgb) (y x n : ℕ) (sa sb : ℤ) (g : ℕ)

@@ -107,7 +107,7 @@ module _ {l : List ℤ} {z b : Shape} {top left : ℕ} {k : Settings} {a : Rgb} 
 
       pub fit-in : FitIn m2 w h (k .r) (k .e)
       fit-in = record {
-        images = record { of = S; imaged = imaged; near = given .settings .near };
+        images = record { of = S; imaged = imaged; r-most = given .settings .r-most };
         some = given .settings .e-some;
         most = given .settings .e-most;
       }
@@ -131,8 +131,8 @@ module _ {l : List ℤ} {z b : Shape} {top left : ℕ} {k : Settings} {a : Rgb} 
 
         line-le : (j y x : ℕ) → y < h → x < w → natAbs (fitted S w h (k .r) (k .e) j y x) ≤ 7000000000000
         unfolding line
-        line-le zero y x hy hx = omega (arith, slope-le m2 w h S imaged (k .r) y x (given .settings .near) hy hx (k .e) (given .settings .e-some) (given .settings .e-most))
-        line-le (suc j) y x hy hx = offset-le m2 w h S imaged (k .r) y x (given .settings .near) hy hx (k .e) (given .settings .e-some) (given .settings .e-most)
+        line-le zero y x hy hx = omega (arith, slope-le m2 w h S imaged (k .r) y x (given .settings .r-most) hy hx (k .e) (given .settings .e-some) (given .settings .e-most))
+        line-le (suc j) y x hy hx = offset-le m2 w h S imaged (k .r) y x (given .settings .r-most) hy hx (k .e) (given .settings .e-some) (given .settings .e-most)
 
         lines : (j : ℕ) → j < 2 → PlaneIs m3 ((4 + j) * P) w h (fitted S w h (k .r) (k .e) j)
         lines j hj = put-is m2 m3 w h 4 2 _ _ j hj put3 (edged (4 + j) (omega arith) (omega arith))
@@ -154,7 +154,7 @@ module _ {l : List ℤ} {z b : Shape} {top left : ℕ} {k : Settings} {a : Rgb} 
           lined = (
             record {
               room = omega (arith, start .room);
-              a-le = λ y x hy hx. slope-le m2 w h S imaged (k .r) y x (given .settings .near) hy hx (k .e) (given .settings .e-some) (given .settings .e-most);
+              a-le = λ y x hy hx. slope-le m2 w h S imaged (k .r) y x (given .settings .r-most) hy hx (k .e) (given .settings .e-some) (given .settings .e-most);
               b-le = λ y x hy hx. line-le 1 y x hy hx;
               slopes = sums4 .sums 4 (omega arith) (omega arith) _ (lines 0 (omega arith));
               offsets = sums4 .sums 5 (omega arith) (omega arith) _ (lines 1 (omega arith));

@@ -20,7 +20,7 @@ pub record Imaged (l : List ℤ) (w h : ℕ) (S : Plane Sample) : Type 0 where
 pub record Images (l : List ℤ) (w h r : ℕ) : Type 0 where
   pub of : Plane Sample
   pub imaged : Imaged l w h of
-  pub near : r ≤ 60
+  pub r-most : r ≤ 60
 
 pub record FitIn (l : List ℤ) (w h r e : ℕ) : Type 0 where
   pub images : Images l w h r

@@ -17,7 +17,7 @@ use Rattle.rules.specs.Light.{darkest, dark, at}
 use Rattle.rules.specs.Buffers.{pixelAt, pixels}
 use Rattle.rules.specs.Good.{GoodSize}
 use Rattle.rules.proofs.Buffers.{place-lt, row-lt, column-lt}
-use Rattle.windows.specs.Plane.{Area, Shrunk}
+use Rattle.windows.specs.Plane.{Area, PlaneMin}
 use Rattle.light.specs.Steps.{value, ByteEntries, Filled, DarkPlane}
 
 -- the plane at the start, entry by entry
@@ -54,7 +54,7 @@ least-le top [] = omega arith
 least-le top (i ∷ l) = omega (arith, least-le top l)
 
 module _ (z : Size) (k : Settings) (frame : List ℕ) (w u v : List ℤ) (r : ℕ) (bytes : (i : ℕ) → getD frame i 0 ≤ 255)
-    (f : Filled frame (z .w * z .h) w u) (m : Shrunk u v 0 (z .w) (z .w) (z .h) (k .s) (z .w * z .h) r) where
+    (f : Filled frame (z .w * z .h) w u) (m : PlaneMin u v 0 (z .w) (z .w) (z .h) (k .s) (z .w * z .h) r) where
   dark-at : (p : ℕ) → p < z .w * z .h → getD v p (pos 0) ≡ pos (at (described z) (dark (described z) (k .s) (pixels (described z) frame)) p)
   unfolding dark window pixels
   dark-at p h =

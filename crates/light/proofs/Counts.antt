@@ -16,7 +16,7 @@ use Rattle.rules.specs.Window.{total}
 use Rattle.rules.specs.Light.{count, rank}
 use Rattle.rules.proofs.Rank.{count-or, above, reaching, earlier, by-cutoff}
 use Rattle.light.specs.declared.Cut.{Cut}
-use Rattle.light.specs.Steps.{upto, hits, Tallied, reach, CutAt, admitted}
+use Rattle.light.specs.Steps.{upto, hits, Tallied, atLeast, CutAt, admitted}
 use Rattle.light.proofs.Positions.{count-cong, count-none, all-upto, hits-more, count-before}
 
 -- one position more is counted
@@ -36,18 +36,18 @@ tallied-more d n l x b f h v s = go (decLt v x) (decLt x v)
         let y : eqb v (d n) ≡ true = eq-eqb v (d n) (sym z ∙ f) in
         rw z (getD-set-same l v (getD l v 0 + 1) 0 (omega arith) ∙ ap (λ (i : ℕ). i + 1) (h v s) ∙ sym (hits-more d n v ∙ rw y))
 
--- ---- how many reach a value
+-- ---- how many are at least a value
 
-pub reach-last : (l : List ℕ) → length l ≡ 256 → reach l 256 ≡ 0
-unfolding reach
-reach-last l e = ap (total (λ (i : ℕ). i)) (drop-of-length-le l {i = 256} (omega arith))
+pub atLeast-last : (l : List ℕ) → length l ≡ 256 → atLeast l 256 ≡ 0
+unfolding atLeast
+atLeast-last l e = ap (total (λ (i : ℕ). i)) (drop-of-length-le l {i = 256} (omega arith))
 
-pub reach-more : (l : List ℕ) (v : ℕ) → v < length l → reach l v ≡ getD l v 0 + reach l (v + 1)
-unfolding reach
-reach-more l v h = rw (add-one v) (ap (total (λ (i : ℕ). i)) (drop-cons l v 0 h))
+pub atLeast-more : (l : List ℕ) (v : ℕ) → v < length l → atLeast l v ≡ getD l v 0 + atLeast l (v + 1)
+unfolding atLeast
+atLeast-more l v h = rw (add-one v) (ap (total (λ (i : ℕ). i)) (drop-cons l v 0 h))
 
--- a value that too few reach is not 0
-pub some-below : (l : List ℕ) (v m : ℕ) → reach l v < m → m ≤ reach l 0 → 0 < v
+-- where too few are at least v, v is not 0
+pub some-below : (l : List ℕ) (v m : ℕ) → atLeast l v < m → m ≤ atLeast l 0 → 0 < v
 some-below l zero m h k = absurd (omega arith)
 some-below l (suc v) m h k = omega arith
 
@@ -60,24 +60,24 @@ at-or-above v x = go (decLt v x) (decLt x v)
     go (no g) (no k) = rw (eq-eqb v x (omega arith), le-leb v x (omega arith))
 
 module _ (d : ℕ → ℕ) (n : ℕ) (l : List ℕ) (e : length l ≡ 256) (small : (o : ℕ) → o < n → d o ≤ 255) (t : Tallied d n l) where
-  reach-from : (k v : ℕ) → v + k ≡ 256 → reach l v ≡ count (λ o. leb v (d o)) (upto n)
-  reach-from zero v f =
+  atLeast-from : (k v : ℕ) → v + k ≡ 256 → atLeast l v ≡ count (λ o. leb v (d o)) (upto n)
+  atLeast-from zero v f =
       let g : v ≡ 256 = omega arith in
       rw g
-      (reach-last l e
+      (atLeast-last l e
       ∙ sym (count-cong (λ o. leb 256 (d o)) (λ o. false) 0 n (λ o a b. lt-leb 256 (d o) (omega (arith, small o (omega arith)))) ∙ count-none (upto n)))
-  reach-from (suc k) v f =
-      reach-more l v (omega arith)
-      ∙ ap₂ _+_ (t v (omega arith)) (ap (reach l) (add-one v) ∙ reach-from k (suc v) (omega arith))
+  atLeast-from (suc k) v f =
+      atLeast-more l v (omega arith)
+      ∙ ap₂ _+_ (t v (omega arith)) (ap (atLeast l) (add-one v) ∙ atLeast-from k (suc v) (omega arith))
       ∙ sym (count-or (λ o. eqb v (d o)) (λ o. ltb v (d o)) (upto n) (λ o g. lt-leb (suc v) (d o) (omega (arith, eqb-true v (d o) g))))
       ∙ count-cong (λ o. eqb v (d o) || ltb v (d o)) (λ o. leb v (d o)) 0 n (λ o a b. at-or-above v (d o))
 
-  pub reach-is : (v : ℕ) → v ≤ 256 → reach l v ≡ count (λ o. leb v (d o)) (upto n)
-  reach-is v h = reach-from (256 - v) v (omega arith)
+  pub atLeast-is : (v : ℕ) → v ≤ 256 → atLeast l v ≡ count (λ o. leb v (d o)) (upto n)
+  atLeast-is v h = atLeast-from (256 - v) v (omega arith)
 
-  pub reach-all : reach l 0 ≡ n
-  reach-all =
-      reach-is 0 (omega arith)
+  pub atLeast-all : atLeast l 0 ≡ n
+  atLeast-all =
+      atLeast-is 0 (omega arith)
       ∙ count-cong (λ o. leb 0 (d o)) (λ o. true) 0 n (λ o a b. le-leb 0 (d o) (omega arith))
       ∙ all-upto n
 
@@ -88,10 +88,10 @@ unfolding above reaching earlier
 by-counts z d l m c e small t k p h =
     let n : ℕ = z .w * z .h in
     let v : ℕ = c .value in
-    let over : above z d v ≡ reach l (v + 1) =
-    sym (reach-is d n l e small t (v + 1) (omega (arith, k .small)) ∙ ap (λ (i : ℕ). count (λ o. leb i (d o)) (upto n)) (add-one v))
+    let over : above z d v ≡ atLeast l (v + 1) =
+    sym (atLeast-is d n l e small t (v + 1) (omega (arith, k .small)) ∙ ap (λ (i : ℕ). count (λ o. leb i (d o)) (upto n)) (add-one v))
     in
-    let reached : reaching z d v ≡ reach l v = sym (reach-is d n l e small t v (omega (arith, k .small))) in
+    let reached : reaching z d v ≡ atLeast l v = sym (atLeast-is d n l e small t v (omega (arith, k .small))) in
     let early : earlier z d v p ≡ hits d p v = count-before (λ o. eqb v (d o)) n p (omega arith) in
     by-cutoff z d v m (omega (arith, over, k .low)) (omega (arith, reached, k .high)) p
     ∙ (λ i. ltb v (d p) || (eqb v (d p) && ltb (early i) (m - over i)))

@@ -47,16 +47,16 @@ Tallied d n l = (v : ℕ) → v < 256 → getD l v 0 ≡ hits d n v
 
 -- ---- the cutoff
 
--- how many reach v: the counts of v and of the values above
-unfoldable pub reach : List ℕ → ℕ → ℕ
-reach l v = total (λ i. i) (drop v l)
+-- how many are at least v: the counts of v and of the values above
+unfoldable pub atLeast : List ℕ → ℕ → ℕ
+atLeast l v = total (λ i. i) (drop v l)
 
--- the greatest value that at least m reach, and how many at that value are let in
+-- the greatest value that at least m are at or above, and how many at that value are let in
 pub record CutAt (l : List ℕ) (m : ℕ) (r : Cut) : Type 0 where
   pub small : r .value ≤ 255
-  pub low : reach l (r .value + 1) < m
-  pub high : m ≤ reach l (r .value)
-  pub ties : r .ties ≡ m - reach l (r .value + 1)
+  pub low : atLeast l (r .value + 1) < m
+  pub high : m ≤ atLeast l (r .value)
+  pub ties : r .ties ≡ m - atLeast l (r .value + 1)
 
 -- ---- the candidates
 

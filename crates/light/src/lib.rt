@@ -8,7 +8,7 @@ ghost use lib.IntN.{pos};
 ghost use Rattle.rules.specs.Light.{darkest, lifted};
 ghost use Rattle.rules.specs.Buffers.{pixelAt};
 ghost use Rattle.rules.specs.Good.{AcceptedLight};
-ghost use Rattle.light.specs.Steps.{value, ByteEntries, Filled, Tallied, reach, CutAt, Chosen, DarkPlane, Finds};
+ghost use Rattle.light.specs.Steps.{value, ByteEntries, Filled, Tallied, atLeast, CutAt, Chosen, DarkPlane, Finds};
 use rules::Rgb;
 use rules::Settings;
 use rules::Size;
@@ -92,9 +92,9 @@ fn tally(work: &[i64], n: usize, counts: &mut [u32])
     }
 }
 
-// The greatest value that at least m pixels reach. 256 counts of 32 bits say at most 2^40.
+// The greatest value that at least m pixels are at or above. 256 counts of 32 bits say at most 2^40.
 fn cutoff(counts: &[u32], m: usize) -> Cut
-    requires { ⌜ (length (now counts) ≡ 256) × (0 < m) × (m ≤ 1099511627776) × (m ≤ reach (now counts) 0) ⌝ }
+    requires { ⌜ (length (now counts) ≡ 256) × (0 < m) × (m ≤ 1099511627776) × (m ≤ atLeast (now counts) 0) ⌝ }
     ensures { λ r. ⌜ CutAt (now (counts .entry)) m r ⌝ }
 {
     let mut v = 255;
@@ -190,7 +190,7 @@ fn darks(z: Size, k: Settings, frame: &[u8], work: &mut [i64])
     let s = k.s;
     let n = w * h;
     fill(frame, work, n);
-    windows::shrink(work, 0, w, w, h, s, n);
+    windows::minima(work, 0, w, w, h, s, n);
 }
 
 // The light of a frame, for a call that is not refused. The work area is wiped.

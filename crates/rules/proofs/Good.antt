@@ -56,8 +56,8 @@ settings-good k e =
     let floor = between 1 10000 (k .t0) (d .1) in
     let share = between 1 1000 (k .share) (f .1) in
     record {
-      dark = ltb-false 30 (k .s) (a .0);
-      near = ltb-false 60 (k .r) (a .1);
+      s-most = ltb-false 30 (k .s) (a .0);
+      r-most = ltb-false 60 (k .r) (a .1);
       omega-some = omega′ .0;
       omega-most = omega′ .1;
       e-some = e′ .0;

@@ -43,11 +43,11 @@ nearest-neg (negsuc n) t = sym (negℤ-negℤ (pos (rounded (suc n) t)))
 
 -- the words: how far q·t is from p, and on which side where that is half of t
 pub record Nearest (p : ℤ) (t : ℕ) (q : ℤ) : Type 0 where
-  pub near : 2 * natAbs (p -ℤ q *ℤ pos t) ≤ t
+  pub close : 2 * natAbs (p -ℤ q *ℤ pos t) ≤ t
   pub away : 2 * natAbs (p -ℤ q *ℤ pos t) ≡ t → natAbs p < natAbs q * t
 
 negated : (p q : ℤ) (t : ℕ) → Nearest p t q → Nearest (negℤ p) t (negℤ q)
-negated p q t h = record { near = rw same (h .near); away = λ e. rw (natAbs-neg p, natAbs-neg q) (h .away (sym (ap (λ (n : ℕ). 2 * n) same) ∙ e)) }
+negated p q t h = record { close = rw same (h .close); away = λ e. rw (natAbs-neg p, natAbs-neg q) (h .away (sym (ap (λ (n : ℕ). 2 * n) same) ∙ e)) }
   where
     same : natAbs (negℤ p -ℤ negℤ q *ℤ pos t) ≡ natAbs (p -ℤ q *ℤ pos t)
     same = rw (neg-times q t, sym (negℤ-+ℤ p (negℤ (q *ℤ pos t)))) (natAbs-neg (p -ℤ q *ℤ pos t))
@@ -57,18 +57,18 @@ words n t q h =
     let low = h .most in
     let high = h .least in
     let e = natAbs-dif n (q * t) in
-    record { near = omega arith; away = λ d. omega arith }
+    record { close = omega arith; away = λ d. omega arith }
 
 unwords : (n t q : ℕ) → Nearest (pos n) t (pos q) → Half n t q
-unwords n t q h = record { most = omega (arith, natAbs-dif n (q * t), h .near); least = go (decLe (2 * (t * q) + t) (2 * n)) }
+unwords n t q h = record { most = omega (arith, natAbs-dif n (q * t), h .close); least = go (decLe (2 * (t * q) + t) (2 * n)) }
   where
     go : Dec (2 * (t * q) + t ≤ 2 * n) → 2 * n < 2 * (t * q) + t
-    go (yes l) = let e = natAbs-dif n (q * t) in let b = h .near in let a = h .away (omega arith) in omega arith
+    go (yes l) = let e = natAbs-dif n (q * t) in let b = h .close in let a = h .away (omega arith) in omega arith
     go (no l) = omega arith
 
 one-pos : (n t : ℕ) (q : ℤ) → 0 < t → Nearest (pos n) t q → q ≡ nearest (pos n) t
 one-pos n t (pos q) k h = ap pos (sym (half-one n t q (unwords n t q h)))
-one-pos n t (negsuc q) k h = let e = ap (λ (z : ℤ). natAbs (pos n +ℤ z)) (negℤ-negℤ (pos (suc q * t))) in let b = h .near in absurd (omega arith)
+one-pos n t (negsuc q) k h = let e = ap (λ (z : ℤ). natAbs (pos n +ℤ z)) (negℤ-negℤ (pos (suc q * t))) in let b = h .close in absurd (omega arith)
 
 pub nearest-is : (p : ℤ) (t : ℕ) → 0 < t → Nearest p t (nearest p t)
 nearest-is (pos n) t h = words n t (rounded n t) (half n t h)

@@ -15,8 +15,8 @@ pub record GoodSize (z : Shape) : Type 0 where
   pub area : z .w * z .h ≤ 262144
 
 pub record GoodSettings (k : Settings) : Type 0 where
-  pub dark : k .s ≤ 30
-  pub near : k .r ≤ 60
+  pub s-most : k .s ≤ 30
+  pub r-most : k .r ≤ 60
   pub omega-some : 0 < k .omega
   pub omega-most : k .omega ≤ 10000
   pub e-some : 0 < k .e

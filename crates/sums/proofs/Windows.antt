@@ -28,7 +28,7 @@ module _ (l : List ℤ) (base w h : ℕ) (f : Plane ℤ) (le : (y x : ℕ) → y
   readable area room i r y x hr hy hx = record {
     row = hy;
     column = hx;
-    near = hr;
+    r-most = hr;
     room = room;
     small = λ v u hv hu.
         let most : u * v ≤ w * h = mul-le-mul hu hv in

@@ -67,6 +67,6 @@ pub record Corners (l : List ℤ) (base w y0 y1 x0 x1 : ℕ) : Type 0 where
 pub record Readable (l : List ℤ) (base w h r y x : ℕ) : Type 0 where
   pub row : y < h
   pub column : x < w
-  pub near : r ≤ 60
+  pub r-most : r ≤ 60
   pub room : base + plane w h ≤ length l
   pub small : (v u : ℕ) → v ≤ h → u ≤ w → natAbs (cell l base (w + 1) v u) ≤ imageMost

@@ -9,9 +9,9 @@ use Rattle.rules.specs.Window.{Plane, least, square}
 use Rattle.rules.specs.Fold.{Σ}
 use Rattle.rules.proofs.Fold.{least-square}
 use Rattle.windows.specs.Lower.{lower}
-use Rattle.windows.specs.Span.{run, span, lo, hi, near}
+use Rattle.windows.specs.Span.{run, span, lo, hi, windowed}
 use Rattle.windows.specs.Line.{lane, LineMin}
-use Rattle.windows.specs.Plane.{RowsMin, Shrunk}
+use Rattle.windows.specs.Plane.{RowsMin, PlaneMin}
 use Rattle.windows.proofs.Spans.{span-cong}
 
 -- a run of integers that are naturals
@@ -44,7 +44,7 @@ fold-le top f a (suc n) = omega (arith, fold-le top f (suc a) n)
 
 -- a window on a line, as a span and as a fold
 line-bridge : (top end s p : ℕ) (g : ℕ → ℤ) (f : ℕ → ℕ) → p < end → ((i : ℕ) → i < end → g i ≡ pos (f i)) → f (p - s) ≤ top
-    → near lower g s end p ≡ pos (Σ min top (p - s) (min end (p + s + 1) - (p - s)) f)
+    → windowed lower g s end p ≡ pos (Σ min top (p - s) (min end (p + s + 1) - (p - s)) f)
 unfolding span
 line-bridge top end s p g f l e h =
     let d : ℕ = hi s end p - lo s p in
@@ -53,22 +53,22 @@ line-bridge top end s p g f l e h =
     ∙ rw (z, run-pos f (p - s) d, run-fold top f (p - s) d) (ap pos (omega (arith, run-le top f (p - s) d h)))
 
 pub bridge : (top w h s : ℕ) (g : Plane ℤ) (f : Plane ℕ) → ((y x : ℕ) → y < h → x < w → g y x ≡ pos (f y x)) → ((y x : ℕ) → y < h → x < w → f y x ≤ top)
-    → (y x : ℕ) → y < h → x < w → near lower (λ v. near lower (g v) s w x) s h y ≡ pos (least top (square w h s f y x))
+    → (y x : ℕ) → y < h → x < w → windowed lower (λ v. windowed lower (g v) s w x) s h y ≡ pos (least top (square w h s f y x))
 bridge top w h s g f e le y x hy hx =
-    line-bridge top h s y (λ v. near lower (g v) s w x) (λ v. Σ min top (x - s) (min w (x + s + 1) - (x - s)) (f v)) hy
+    line-bridge top h s y (λ v. windowed lower (g v) s w x) (λ v. Σ min top (x - s) (min w (x + s + 1) - (x - s)) (f v)) hy
     (λ v hv. line-bridge top w s x (g v) (f v) hx (λ u hu. e v u hv hu) (le v (x - s) hv (omega arith)))
     (fold-le top (f (y - s)) (x - s) (min w (x + s + 1) - (x - s)))
     ∙ ap pos (sym (least-square top w h s f y x))
 
 -- ---- rows, then columns
-pub shrunk : (l u v : List ℤ) (base stride w h s scratch a b : ℕ) → RowsMin l u base stride w h s scratch a → LineMin u v base stride h w s scratch b
-    → Shrunk l v base stride w h s scratch (a + w * b)
+pub plane-min : (l u v : List ℤ) (base stride w h s scratch a b : ℕ) → RowsMin l u base stride w h s scratch a → LineMin u v base stride h w s scratch b
+    → PlaneMin l v base stride w h s scratch (a + w * b)
 unfolding lane
-shrunk l u v base stride w h s scratch a b rows columns =
+plane-min l u v base stride w h s scratch a b rows columns =
     record {
       mins = λ top f le e y x hy hx.
           columns .mins y x hy hx
-          ∙ span-cong lower (lane u base stride x) (λ i. near lower (λ j. lane l base stride j i) s w x) (lo s y) (hi s h y) (omega arith)
+          ∙ span-cong lower (lane u base stride x) (λ i. windowed lower (λ j. lane l base stride j i) s w x) (lo s y) (hi s h y) (omega arith)
           (λ i p q. rows .mins i x (omega arith) hx)
           ∙ bridge top w h s (λ i j. lane l base stride j i) f e le y x hy hx;
       rest = λ i p q. columns .rest i (λ c d. p c (omega (arith, mul-comm h w))) q ∙ rows .rest i p q;

@@ -6,7 +6,7 @@ use Prim.Native.Nat.{ℕ, zero, suc, _+_, _-_, _*_, _/_, _≤_, _<_, zero-le, su
 use native.Mathlib.Nat.{div-mul-le-self, lt-div-mul-add, div-eq-of-lt-le, add-mul, one-mul}
 use native.Mathlib.Omega.{arith}
 use borrow.Author.Tests.{lt-ltb, le-ltb, eq-eqb, ne-eqb}
-use Rattle.windows.specs.Span.{span, lo, hi, near}
+use Rattle.windows.specs.Span.{span, lo, hi, windowed}
 use Rattle.windows.specs.Blocks.{start, stop, choose}
 use Rattle.windows.proofs.Spans.{span-split}
 
@@ -117,5 +117,5 @@ module _ {A : Type 0} (op : A → A → A) where
 
       -- so it gives each window
       pub choose-is : (s i : ℕ) → k ≡ 2 * s + 1 → i < n
-          → choose op (lo s i) (start k (hi s n i)) (Q (lo s i)) (P (hi s n i)) ≡ near op f s n i
+          → choose op (lo s i) (start k (hi s n i)) (Q (lo s i)) (P (hi s n i)) ≡ windowed op f s n i
       choose-is s i e u = choose-run (lo s i) (hi s n i) (omega arith) (omega arith) (omega arith) (λ a b. omega arith)

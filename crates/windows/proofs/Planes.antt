@@ -8,7 +8,7 @@ use native.Mathlib.Omega.{arith}
 use lib.ListN.{length}
 use lib.IntN.{ℤ}
 use Rattle.windows.specs.Lower.{lower}
-use Rattle.windows.specs.Span.{lo, hi, near}
+use Rattle.windows.specs.Span.{lo, hi, windowed}
 use Rattle.windows.specs.Count.{comparisons, samples, planeComparisons}
 use Rattle.windows.specs.Line.{entry, spot, lane, Places, LineMin}
 use Rattle.windows.specs.Plane.{Area, Spared, RowsMin}
@@ -38,7 +38,7 @@ at-most-six w h s = omega (arith, pass-fits s h w, pass-fits s w h, mul-comm h w
 
 pub record RowsTo (l m : List ℤ) (base stride w h s scratch y : ℕ) : Type 0 where
   pub size : length m ≡ length l
-  pub done : (v x : ℕ) → v < y → x < w → lane m base stride x v ≡ near lower (λ u. lane l base stride u v) s w x
+  pub done : (v x : ℕ) → v < y → x < w → lane m base stride x v ≡ windowed lower (λ u. lane l base stride u v) s w x
   pub todo : (v x : ℕ) → y ≤ v → v < h → x < w → lane m base stride x v ≡ lane l base stride x v
   pub rest : Spared l m base stride w h scratch
 
@@ -102,7 +102,7 @@ module _ (l : List ℤ) (base stride w h scratch : ℕ) (area : Area l base stri
             (λ (o : y ≤ v).
             let vy : v ≡ y = omega arith in
             let z : base + y * stride + x * 1 + 0 ≡ base + y * stride + x = omega arith in
-            let here : entry n (spot base stride y x) ≡ near lower (lane m (base + y * stride) 1 0) s w x = rw z at (d .mins x 0 b (omega arith)) in
+            let here : entry n (spot base stride y x) ≡ windowed lower (lane m (base + y * stride) 1 0) s w x = rw z at (d .mins x 0 b (omega arith)) in
             rw vy (here ∙ span-cong lower (lane m (base + y * stride) 1 0) (λ u. lane l base stride u y) (lo s x) (hi s w x) (omega arith) (λ i p q. this i (omega arith))))
             (lt-or-ge v y);
         todo = λ v x a b c. other v x b c (λ z. omega arith) ∙ t .todo v x (omega arith) b c;

@@ -6,7 +6,7 @@ use Prim.Native.Nat.{ℕ, _+_, _-_, _*_, _≤_, _<_}
 use lib.ListN.{getD, length}
 use lib.IntN.{ℤ, pos}
 use Rattle.windows.specs.Lower.{lower}
-use Rattle.windows.specs.Span.{span, lo, hi, near}
+use Rattle.windows.specs.Span.{span, lo, hi, windowed}
 use Rattle.windows.specs.Blocks.{start, stop, choose}
 use Rattle.windows.specs.Count.{inBlocks, tally, crossing, comparisons, samples}
 
@@ -88,6 +88,6 @@ pub record Met (l m : List ℤ) (base step n len s p q r : ℕ) : Type 0 where
 
 -- each sample is the least over its window, lane by lane; what is neither sample nor scratch is as it was; r runs were joined
 pub record LineMin (l m : List ℤ) (base step n len s p r : ℕ) : Type 0 where
-  pub mins : (i j : ℕ) → i < n → j < len → lane m base step j i ≡ near lower (lane l base step j) s n i
+  pub mins : (i j : ℕ) → i < n → j < len → lane m base step j i ≡ windowed lower (lane l base step j) s n i
   pub rest : (x : ℕ) → (p ≤ x → x < p + 2 * (n * len) → ⊥) → Off x base step n len → entry m x ≡ entry l x
   pub count : r ≡ comparisons s (samples n)

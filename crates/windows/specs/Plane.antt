@@ -7,7 +7,7 @@ use lib.ListN.{length}
 use lib.IntN.{ℤ, pos}
 use Rattle.rules.specs.Window.{Plane, least, square}
 use Rattle.windows.specs.Lower.{lower}
-use Rattle.windows.specs.Span.{near}
+use Rattle.windows.specs.Span.{windowed}
 use Rattle.windows.specs.Count.{comparisons, samples, planeComparisons}
 use Rattle.windows.specs.Line.{entry, spot, lane, Off}
 
@@ -26,7 +26,7 @@ Spared l m base stride w h scratch = (i : ℕ) → (scratch ≤ i → i < scratc
 
 -- each row is its minima over windows of radius s
 pub record RowsMin (l m : List ℤ) (base stride w h s scratch r : ℕ) : Type 0 where
-  pub mins : (y x : ℕ) → y < h → x < w → lane m base stride x y ≡ near lower (λ u. lane l base stride u y) s w x
+  pub mins : (y x : ℕ) → y < h → x < w → lane m base stride x y ≡ windowed lower (λ u. lane l base stride u y) s w x
   pub rest : Spared l m base stride w h scratch
   pub count : r ≡ h * comparisons s (samples w)
 
@@ -35,7 +35,7 @@ abbrev pub Shows : List ℤ → ℕ → ℕ → ℕ → ℕ → Plane ℕ → Ty
 Shows l base stride w h f = (y x : ℕ) → y < h → x < w → entry l (spot base stride y x) ≡ pos (f y x)
 
 -- the plane at base has become its least values over the square windows of radius s; all else but the scratch is as it was; r comparisons were made
-pub record Shrunk (l m : List ℤ) (base stride w h s scratch r : ℕ) : Type 0 where
+pub record PlaneMin (l m : List ℤ) (base stride w h s scratch r : ℕ) : Type 0 where
   pub mins : (top : ℕ) (f : Plane ℕ) → ((y x : ℕ) → y < h → x < w → f y x ≤ top) → Shows l base stride w h f
       → Shows m base stride w h (λ y x. least top (square w h s f y x))
   pub rest : Spared l m base stride w h scratch

@@ -20,5 +20,5 @@ abbrev pub hi : ℕ → ℕ → ℕ → ℕ
 hi s n i = min (i + s) (n - 1)
 
 -- the window about sample i of the line f, joined
-abbrev pub near : {A : Type 0} → (A → A → A) → (ℕ → A) → ℕ → ℕ → ℕ → A
-near op f s n i = span op f (lo s i) (hi s n i)
+abbrev pub windowed : {A : Type 0} → (A → A → A) → (ℕ → A) → ℕ → ℕ → ℕ → A
+windowed op f s n i = span op f (lo s i) (hi s n i)

@@ -9,7 +9,7 @@ ghost use Rattle.windows.specs.Lower.{lower};
 ghost use Rattle.windows.specs.Span.{lo, hi};
 ghost use Rattle.windows.specs.Blocks.{start, choose};
 ghost use Rattle.windows.specs.Line.{entry, Runs, Written, Block, Ahead, Behind, Places, Halves, Met, LineMin};
-ghost use Rattle.windows.specs.Plane.{Area, RowsMin, Shrunk};
+ghost use Rattle.windows.specs.Plane.{Area, RowsMin, PlaneMin};
 
 // The entry at `to` becomes that at `from`.
 fn copy_one(work: &mut [i64], from: usize, to: usize)
@@ -280,7 +280,7 @@ fn rows_min(
 
 // Each entry of a plane of `w` by `h`, whose rows start `stride` apart from `base` on, becomes the least over the square window of radius `s`
 // about it. 2·w·h entries from `scratch` on are used. Returns the number of comparisons.
-pub fn shrink(
+pub fn minima(
     work: &mut [i64],
     base: usize,
     stride: usize,
@@ -290,7 +290,7 @@ pub fn shrink(
     scratch: usize,
 ) -> usize
     requires { ⌜ (s ≤ 30) × Area (now work) base stride w h scratch ⌝ }
-    ensures { λ r. ⌜ Shrunk (now (work .entry)) (now (work .exit)) base stride w h s scratch r ⌝ }
+    ensures { λ r. ⌜ PlaneMin (now (work .entry)) (now (work .exit)) base stride w h s scratch r ⌝ }
 {
     let rows = rows_min(work, base, stride, w, h, s, scratch);
     let columns = line_min(work, base, stride, h, w, s, scratch);

@@ -30,17 +30,17 @@ clear-edges-requires c κs = search needs
 ratios-requires : tie.Need-ratios-requires
 ratios-requires c κs = search needs
 
-add-shrink : tie.Need-add-shrink
-add-shrink c = search needs
+add-minima : tie.Need-add-minima
+add-minima c = search needs
 
-add-shrink-2 : tie.Need-add-shrink-2
-add-shrink-2 c = search needs
+add-minima-2 : tie.Need-add-minima-2
+add-minima-2 c = search needs
 
-mul-shrink : tie.Need-mul-shrink
-mul-shrink c = search needs
+mul-minima : tie.Need-mul-minima
+mul-minima c = search needs
 
-shrink-requires : tie.Need-shrink-requires
-shrink-requires c κs =
+minima-requires : tie.Need-minima-requires
+minima-requires c κs =
     let r = c .before .before in
     let s = start-of r in
     let d = s .args in
@@ -54,9 +54,9 @@ coarsen-requires c κs =
     let o = r .before .before .before in
     let s = start-of r in
     let d = s .args in (
-      omega (arith, s .pre .1, long-of r, m .shrink .kept .0),
+      omega (arith, s .pre .1, long-of r, m .minima .kept .0),
       omega (arith, s .pre .0 .settings),
-      ratios-are (described (d .b)) (d .k) (d .a) _ _ _ _ _ _ (o .clear-edges .ensures) (r .ratios .ensures) (m .shrink .ensures),
+      ratios-are (described (d .b)) (d .k) (d .a) _ _ _ _ _ _ (o .clear-edges .ensures) (r .ratios .ensures) (m .minima .ensures),
     )
 
 same-length : tie.Need-same-length
@@ -70,9 +70,9 @@ returns c =
     let o = r .before .before .before in
     let s = start-of r in
     let d = s .args in (
-      coarse-is (described (d .b)) (d .k) (d .a) _ _ _ _ _ _ (o .clear-edges .ensures) (r .ratios .ensures) (m .shrink .ensures) _ (n .coarsen .ensures)
-          (omega (arith, s .pre .1, long-of r, m .shrink .kept .0, n .coarsen .kept .0)),
-      coarse-rest (described (d .b)) (d .k) (d .a) _ _ _ _ _ _ (o .clear-edges .ensures) (r .ratios .ensures) (m .shrink .ensures) _ (n .coarsen .ensures),
+      coarse-is (described (d .b)) (d .k) (d .a) _ _ _ _ _ _ (o .clear-edges .ensures) (r .ratios .ensures) (m .minima .ensures) _ (n .coarsen .ensures)
+          (omega (arith, s .pre .1, long-of r, m .minima .kept .0, n .coarsen .kept .0)),
+      coarse-rest (described (d .b)) (d .k) (d .a) _ _ _ _ _ _ (o .clear-edges .ensures) (r .ratios .ensures) (m .minima .ensures) _ (n .coarsen .ensures),
     )
 
 pub prepare-spec : {M : Type 1} → statement M
@@ -84,10 +84,10 @@ prepare-spec =
     mul-p
     clear-edges-requires
     ratios-requires
-    add-shrink
-    add-shrink-2
-    mul-shrink
-    shrink-requires
+    add-minima
+    add-minima-2
+    mul-minima
+    minima-requires
     coarsen-requires
     same-length
     returns)

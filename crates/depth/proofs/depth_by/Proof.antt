@@ -14,13 +14,13 @@ use Rattle.depth.proofs.depth_by.Statement.{statement}
 use Rattle.depth.proofs.depth_by.Tie as tie
 
 abbrev Inv-loop : tie.InvT-loop
-Inv-loop table t reach at₀ left₀ at left = (at ≤ depthOf t) × (depthOf t ≤ at + left) × (at + left ≤ 918)
+Inv-loop table t bound at₀ left₀ at left = (at ≤ depthOf t) × (depthOf t ≤ at + left) × (at + left ≤ 918)
 
 abbrev μ-loop : tie.MeasureT-loop
-μ-loop table t reach at₀ left₀ at left = left
+μ-loop table t bound at₀ left₀ at left = left
 
-mul-reach : tie.Need-mul-reach Inv-loop μ-loop
-mul-reach c = search needs
+mul-bound : tie.Need-mul-bound Inv-loop μ-loop
+mul-bound c = search needs
 
 loop-holds : tie.Need-loop-holds Inv-loop μ-loop
 loop-holds c = let b = bounds (c .args .t) .most in let e = ap length (c .pre) in (omega arith, omega (arith, count), omega (arith, count))
@@ -71,7 +71,7 @@ depth-by-spec =
     (tie.spec
     Inv-loop
     μ-loop
-    mul-reach
+    mul-bound
     loop-holds
     sub-middle
     add-middle

@@ -11,13 +11,13 @@ use Rattle.depth.proofs.fallen.Statement.{statement}
 use Rattle.depth.proofs.fallen.Tie as tie
 
 abbrev Inv-loop : tie.InvT-loop
-Inv-loop table t from reach at₀ at = (depthOf t ≤ at) × (at ≤ 918)
+Inv-loop table t from bound at₀ at = (depthOf t ≤ at) × (at ≤ 918)
 
 abbrev μ-loop : tie.MeasureT-loop
-μ-loop table t from reach at₀ at = at
+μ-loop table t from bound at₀ at = at
 
-mul-reach : tie.Need-mul-reach Inv-loop μ-loop
-mul-reach c = omega (arith, c .pre .1)
+mul-bound : tie.Need-mul-bound Inv-loop μ-loop
+mul-bound c = omega (arith, c .pre .1)
 
 loop-holds : tie.Need-loop-holds Inv-loop μ-loop
 loop-holds c = (c .pre .2, c .pre .3)
@@ -69,7 +69,7 @@ fallen-spec =
     (tie.spec
     Inv-loop
     μ-loop
-    mul-reach
+    mul-bound
     loop-holds
     sub-if1
     mul-if1

@@ -50,7 +50,7 @@ module _ (k : tie.After-moment-sum4) where
   known : Moments n sg st sgg sgt
   known =
       let p = s .pre .0 .images in
-      summed-moments (summed (p .of) (p .imaged)) (moments (s .args .work .now) (s .args .w) (s .args .h) (p .of) (p .imaged) (s .args .r) (s .args .y) (s .args .x) (p .near) (s .pre .1) (s .pre .2))
+      summed-moments (summed (p .of) (p .imaged)) (moments (s .args .work .now) (s .args .w) (s .args .h) (p .of) (p .imaged) (s .args .r) (s .args .y) (s .args .x) (p .r-most) (s .pre .1) (s .pre .2))
 
 slope-back : (c : tie.After-slope) → rd (c .slope .result) ≡ c .slope .result
 slope-back c = back (c .slope .result) (record { sfits = c .slope .ok })

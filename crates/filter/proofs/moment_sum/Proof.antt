@@ -22,7 +22,7 @@ result-is c S i =
     let p = c .before .pre in
     back (c .square-sum .result) (record { sfits = c .square-sum .ok })
     ∙ c .square-sum .ensures (λ v u. pos (moment (a .j) (S v u))) (i .sums (a .j) (p .1))
-    ∙ moment-total (a .work .now) (a .w) (a .h) S i (a .r) (a .y) (a .x) (p .0 .near) (p .2) (p .3) (a .j)
+    ∙ moment-total (a .work .now) (a .w) (a .h) S i (a .r) (a .y) (a .x) (p .0 .r-most) (p .2) (p .3) (a .j)
 
 add-square-sum : tie.Need-add-square-sum
 add-square-sum c = search needs
@@ -40,13 +40,13 @@ square-sum-requires : tie.Need-square-sum-requires
 square-sum-requires c κs =
     let a = c .args in
     let p = c .pre in
-    moment-readable (a .work .now) (a .w) (a .h) (p .0 .of) (p .0 .imaged) (a .r) (a .y) (a .x) (p .0 .near) (p .2) (p .3) (a .j) (p .1)
+    moment-readable (a .work .now) (a .w) (a .h) (p .0 .of) (p .0 .imaged) (a .r) (a .y) (a .x) (p .0 .r-most) (p .2) (p .3) (a .j) (p .1)
 
 cast-result : tie.Need-cast-result
 cast-result c =
     let a = c .before .args in
     let p = c .before .pre in
-    let most = total-fits (a .work .now) (a .w) (a .h) (p .0 .of) (p .0 .imaged) (a .r) (a .y) (a .x) (p .0 .near) (p .2) (p .3) (a .j) in
+    let most = total-fits (a .work .now) (a .w) (a .h) (p .0 .of) (p .0 .imaged) (a .r) (a .y) (a .x) (p .0 .r-most) (p .2) (p .3) (a .j) in
     rw (result-is c (p .0 .of) (p .0 .imaged)) (tt, record { fits = omega arith })
 
 returns : tie.Need-returns

@@ -83,7 +83,7 @@ refined-requires c κs =
     let p = s c .pre in
     let hy = p .1 .1 in
     let hx = p .1 .2 in
-    (read-some (read c) hy hx, read-few (read c) hy hx (p .0 .settings .near), c .before .guide-at .ensures .1, slopes-le (read c) hy hx 7833600000 (p .1 .0 .a-le), offsets-le (read c) hy hx 7000000000000 (p .1 .0 .b-le))
+    (read-some (read c) hy hx, read-few (read c) hy hx (p .0 .settings .r-most), c .before .guide-at .ensures .1, slopes-le (read c) hy hx 7833600000 (p .1 .0 .a-le), offsets-le (read c) hy hx 7000000000000 (p .1 .0 .b-le))
 
 returns : tie.Need-returns
 returns c =

@@ -1,15 +1,15 @@
--- `light::cutoff` meets its contract. The loop's invariant: `next` pixels reach v, and `above`, fewer than m, are above it. Assumes nothing.
+-- `light::cutoff` meets its contract. The loop's invariant: `next` pixels are at least v, and `above`, fewer than m, are above it. Assumes nothing.
 use mathlib.Core.Path.{_≡_, sym, ap}
 use Prim.Native.Nat.{ℕ, _≤_, _<_, _-_, _+_}
 use native.Mathlib.Omega.{arith}
 use borrow.Author.Needs.{needs}
-use Rattle.light.specs.Steps.{reach}
-use Rattle.light.proofs.Counts.{reach-last, reach-more, some-below}
+use Rattle.light.specs.Steps.{atLeast}
+use Rattle.light.proofs.Counts.{atLeast-last, atLeast-more, some-below}
 use Rattle.light.proofs.cutoff.Statement.{statement}
 use Rattle.light.proofs.cutoff.Tie as tie
 
 abbrev Inv-loop : tie.InvT-loop
-Inv-loop counts m v₀ above₀ next₀ v above next = (v ≤ 255) × (next ≡ reach counts v) × (above ≡ reach counts (v + 1)) × (above < m)
+Inv-loop counts m v₀ above₀ next₀ v above next = (v ≤ 255) × (next ≡ atLeast counts v) × (above ≡ atLeast counts (v + 1)) × (above < m)
 
 abbrev μ-loop : tie.MeasureT-loop
 μ-loop counts m v₀ above₀ next₀ v above next = v
@@ -23,10 +23,10 @@ whole-requires c κs = search needs
 loop-holds : tie.Need-loop-holds Inv-loop μ-loop
 loop-holds c =
     let l = c .before .before .before .args .counts .now in
-    let z = reach-last l (c .before .before .before .pre .0) in
-    (omega arith, omega (arith, c .whole .ensures, reach-more l 255 (omega arith)), sym z, omega arith)
+    let z = atLeast-last l (c .before .before .before .pre .0) in
+    (omega arith, omega (arith, c .whole .ensures, atLeast-more l 255 (omega arith)), sym z, omega arith)
 
--- while too few reach v, it is above 0
+-- while too few are at least v, it is above 0
 some : (c : tie.In-loop Inv-loop μ-loop) → 0 < c .before .loop .v
 some c =
     let s = c .before .before .before .before .before in
@@ -56,8 +56,8 @@ loop-again c =
     let s = c .before .before .before .before .before .before .before in
     let x = s .args .counts .now in
     let e : l .v - 1 + 1 ≡ l .v = omega (arith, some (c .before .before)) in
-    let f : l .next ≡ reach x (l .v - 1 + 1) = rw e (l .inv .1) in
-    (omega arith, omega (arith, c .whole2 .ensures, reach-more x (l .v - 1) (omega arith), f), f, c .before .before .loop-test .taken)
+    let f : l .next ≡ atLeast x (l .v - 1 + 1) = rw e (l .inv .1) in
+    (omega arith, omega (arith, c .whole2 .ensures, atLeast-more x (l .v - 1) (omega arith), f), f, c .before .before .loop-test .taken)
 
 sub-t13 : tie.Need-sub-t13 Inv-loop μ-loop
 sub-t13 c = omega arith

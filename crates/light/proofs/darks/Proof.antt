@@ -11,10 +11,10 @@ mul-n c = search needs
 fill-requires : tie.Need-fill-requires
 fill-requires c κs = search needs
 
-shrink-requires : tie.Need-shrink-requires
-shrink-requires c κs =
+minima-requires : tie.Need-minima-requires
+minima-requires c κs =
     let s = c .before .before .before .before .before in
-    (omega (arith, s .pre .settings .dark), in-place (s .args .z) _ (s .pre .size) (omega (arith, s .pre .space, c .before .before .fill .kept .1 .0)))
+    (omega (arith, s .pre .settings .s-most), in-place (s .args .z) _ (s .pre .size) (omega (arith, s .pre .space, c .before .before .fill .kept .1 .0)))
 
 same-length : tie.Need-same-length
 same-length c = search needs
@@ -24,7 +24,7 @@ returns c =
     let a = c .before .before .before .before .before .before .before .args in
     dark-plane (a .z) (a .k) (a .frame .now) (a .work .now) _ _ _
     (λ i. omega (arith, c .before .before .before .before .before .before .shared-slice-known .given i))
-    (c .before .before .before .before .fill .ensures) (c .before .shrink .ensures)
+    (c .before .before .before .before .fill .ensures) (c .before .minima .ensures)
 
 pub darks-spec : {M : Type 1} → statement M
-darks-spec = tie.close (tie.spec mul-n fill-requires shrink-requires same-length returns)
+darks-spec = tie.close (tie.spec mul-n fill-requires minima-requires same-length returns)

@@ -10,7 +10,7 @@ use Rattle.rules.specs.Light.{share}
 use Rattle.rules.specs.Promise.{wiped}
 use Rattle.planes.proofs.Wiped.{wiped-same}
 use Rattle.light.specs.Steps.{ByteEntries, CutAt}
-use Rattle.light.proofs.Counts.{reach-all}
+use Rattle.light.proofs.Counts.{atLeast-all}
 use Rattle.light.proofs.Areas.{roomy, levels}
 use Rattle.light.proofs.Answer.{share-le, light-is}
 use Rattle.light.proofs.find.Statement.{statement}
@@ -55,7 +55,7 @@ cutoff-requires c κs =
     let e = c .before .before .before .before .before .candidates .ensures in
     let m = share-le (described z) (s .args .k) (mul-pos (s .pre .size .across) (s .pre .size .down)) (s .pre .settings .share-most) in
     let t = c .before .before .tally in
-    let r = reach-all _ (z .w * z .h) (t .last .1 .1 .0) (t .kept .1 .1 .0) (λ o h. entries b o h .1) (t .ensures) in
+    let r = atLeast-all _ (z .w * z .h) (t .last .1 .1 .0) (t .kept .1 .1 .0) (λ o h. entries b o h .1) (t .ensures) in
     (t .kept .1 .1 .0, omega (arith, e), omega (arith, e, m, s .pre .size .area), omega (arith, e, m, r))
 
 choose-requires : tie.Need-choose-requires

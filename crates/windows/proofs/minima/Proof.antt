@@ -1,11 +1,11 @@
--- `windows::shrink` meets its contract: the rows, then the plane as one line of its rows, and the bridge to the rules' square. Assumes nothing.
+-- `windows::minima` meets its contract: the rows, then the plane as one line of its rows, and the bridge to the rules' square. Assumes nothing.
 use Prim.Native.Nat.{_*_, _≤_}
 use native.Mathlib.Omega.{arith}
 use borrow.Author.Needs.{needs}
 use Rattle.windows.proofs.Planes.{column-places, pass-bounds}
-use Rattle.windows.proofs.Bridge.{shrunk}
-use Rattle.windows.proofs.shrink.Statement.{statement}
-use Rattle.windows.proofs.shrink.Tie as tie
+use Rattle.windows.proofs.Bridge.{plane-min}
+use Rattle.windows.proofs.minima.Statement.{statement}
+use Rattle.windows.proofs.minima.Tie as tie
 
 rows-min-requires : tie.Need-rows-min-requires
 rows-min-requires c κs = search needs
@@ -35,9 +35,9 @@ same-length : tie.Need-same-length
 same-length c = search needs
 
 returns : tie.Need-returns
-returns c = shrunk _ _ _ _ _ _ _ _ _ _ _ (c .before .before .before .before .rows-min .ensures) (c .before .line-min .ensures)
+returns c = plane-min _ _ _ _ _ _ _ _ _ _ _ (c .before .before .before .before .rows-min .ensures) (c .before .line-min .ensures)
 
-pub shrink-spec : {M : Type 1} → statement M
-shrink-spec =
+pub minima-spec : {M : Type 1} → statement M
+minima-spec =
     tie.close
     (tie.spec rows-min-requires line-min-requires mul-result add-result same-length returns)
