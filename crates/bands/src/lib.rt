@@ -1,11 +1,12 @@
 // The band figure: mean and least transmission of a band of rows as two doubles.
 ghost use mathlib.Core.Path.{_≡_};
-ghost use Prim.Native.Nat.{_*_, _^_, _≤_, _<_, min};
+ghost use Prim.Native.Nat.{_*_, _^_, _≤_, _<_};
 ghost use lib.ListN.{length};
 ghost use Rattle.rules.specs.Shape.{described};
 ghost use Rattle.rules.specs.Good.{GoodSize};
 ghost use Rattle.rules.specs.Window.{least, total};
 ghost use Rattle.rules.specs.Picture.{quotient, figure as figureIn};
+use numbers::lesser_u16;
 use rules::Figure;
 use rules::Size;
 
@@ -15,12 +16,6 @@ fn divided(n: u64, d: u64) -> f64
     ensures { λ r. ⌜ r ≡ quotient n d ⌝ }
 {
     (n as f64) / (d as f64)
-}
-
-fn lesser(x: u16, y: u16) -> u16
-    ensures { λ r. ⌜ r ≡ min x y ⌝ }
-{
-    if x <= y { x } else { y }
 }
 
 // The sum of the entries.
@@ -44,7 +39,7 @@ fn least_of(band: &[u16]) -> u16
     let mut low = 10000;
     let mut i = 0;
     while i < band.len() {
-        low = lesser(low, band[i]);
+        low = lesser_u16(low, band[i]);
         i += 1;
     }
     low

@@ -1,7 +1,7 @@
 // Clear and Replace, of calls that are not refused. Both bring a rectangle of map and picture up to date by way of a box of the frame: Clear the whole frame, Replace what is within
 // s + 2r of the new pixels, by way of a box that reaches as far again.
 ghost use mathlib.Core.Path.{_≡_};
-ghost use Prim.Native.Nat.{_+_, _-_, _*_, _≤_, _<_, min};
+ghost use Prim.Native.Nat.{_*_, _≤_};
 ghost use lib.ListN.{length};
 ghost use Rattle.rules.specs.Shape.{described, room};
 ghost use Rattle.rules.specs.Transmission.{refined};
@@ -16,6 +16,8 @@ ghost use Rattle.writer.specs.Write.{Target};
 ghost use Rattle.clearing.specs.Call.{Loan, grownRect};
 use coarse::prepare;
 use filter::filter;
+use numbers::cut;
+use numbers::less;
 use planes::wipe;
 use rules::Rect;
 use rules::Rgb;
@@ -75,21 +77,6 @@ pub fn clear_whole(
         h: z.h,
     };
     refresh(map, picture, frame, work, z, z, 0, 0, k, a, o);
-}
-
-// a - b, and 0 where b is larger.
-fn less(a: usize, b: usize) -> usize
-    ensures { λ r. ⌜ r ≡ a - b ⌝ }
-{
-    if b < a { a - b } else { 0 }
-}
-
-// a + q, cut at the end.
-fn cut(a: usize, q: usize, end: usize) -> usize
-    requires { ⌜ a ≤ end ⌝ }
-    ensures { λ r. ⌜ r ≡ min end (a + q) ⌝ }
-{
-    if end - a < q { end } else { a + q }
 }
 
 // The rectangle, grown by q rows and columns and cut at the frame.

@@ -14,6 +14,7 @@ ghost use Rattle.planes.specs.Put.{PixelPut, RowPut, PlanesPut};
 ghost use Rattle.planes.specs.Stage.{Given, shown, Coarse, Lined};
 ghost use Rattle.filter.specs.Fill.{moment, FillIn, filled};
 ghost use Rattle.filter.specs.Fit.{Imaged, Images, FitIn, fitted};
+use numbers::less;
 use pixel::guide_of;
 use pixel::offset;
 use pixel::pixel_at;
@@ -24,7 +25,6 @@ use planes::put;
 use rules::Rgb;
 use rules::Settings;
 use rules::Size;
-use sums::first_of;
 use sums::integrate_planes;
 use sums::past_of;
 use sums::square_sum;
@@ -86,8 +86,8 @@ fn count(w: usize, h: usize, r: usize, y: usize, x: usize) -> u64
     requires { ⌜ (y < h) × (x < w) × (r ≤ 60) ⌝ }
     ensures { λ n. ⌜ n ≡ (min h (y + r + 1) - (y - r)) * (min w (x + r + 1) - (x - r)) ⌝ }
 {
-    let tall = past_of(y, r, h) - first_of(y, r);
-    let wide = past_of(x, r, w) - first_of(x, r);
+    let tall = past_of(y, r, h) - less(y, r);
+    let wide = past_of(x, r, w) - less(x, r);
     (tall * wide) as u64
 }
 

@@ -1,7 +1,7 @@
 // One pixel's arithmetic, as document 01 has it. Every whole-number division of the library is here, each in one function, and in 32 bits
 // where the numbers are small, since that is quicker.
 ghost use mathlib.Core.Path.{_≡_};
-ghost use Prim.Native.Nat.{_+_, _*_, _/_, _^_, _≤_, _<_, min};
+ghost use Prim.Native.Nat.{_+_, _*_, _/_, _^_, _≤_, _<_};
 ghost use lib.ListN.{length};
 ghost use lib.IntN.{natAbs};
 ghost use lib.Signed.{shrZ};
@@ -11,6 +11,7 @@ ghost use Rattle.rules.specs.Transmission.{ratio, leastRatio, coarseOf, slopeOf
 ghost use Rattle.rules.specs.Picture.{rounded, recover, haze};
 ghost use Rattle.rules.specs.Buffers.{pixelAt};
 ghost use Rattle.pixel.specs.Moments.{Moments};
+use numbers::lesser_u64;
 use rules::Rgb;
 
 // ---- what is read of a pixel
@@ -28,17 +29,11 @@ pub fn pixel_at(frame: &[u8], p: usize) -> Rgb
     }
 }
 
-fn lesser(x: u64, y: u64) -> u64
-    ensures { λ r. ⌜ r ≡ min x y ⌝ }
-{
-    if x <= y { x } else { y }
-}
-
 // The least of the three bytes.
 pub fn darkest_of(i: Rgb) -> u64
     ensures { λ r. ⌜ r ≡ darkest i ⌝ }
 {
-    lesser(i.r as u64, lesser(i.g as u64, i.b as u64))
+    lesser_u64(i.r as u64, lesser_u64(i.g as u64, i.b as u64))
 }
 
 // The guide: R+G+B.
@@ -55,7 +50,7 @@ fn ratio_of(i: u8, a: u8) -> u64
     requires { ⌜ 0 < a ⌝ }
     ensures { λ r. ⌜ r ≡ ratio i a ⌝ }
 {
-    lesser((10000 * (i as u32) / (a as u32)) as u64, 10000)
+    lesser_u64((10000 * (i as u32) / (a as u32)) as u64, 10000)
 }
 
 // The least ratio over the channels.
@@ -63,9 +58,9 @@ pub fn least_ratio(i: Rgb, a: Rgb) -> u64
     requires { ⌜ GoodLight a ⌝ }
     ensures { λ r. ⌜ r ≡ leastRatio a i ⌝ }
 {
-    lesser(
+    lesser_u64(
         ratio_of(i.r, a.r),
-        lesser(ratio_of(i.g, a.g), ratio_of(i.b, a.b)),
+        lesser_u64(ratio_of(i.g, a.g), ratio_of(i.b, a.b)),
     )
 }
 
@@ -112,7 +107,7 @@ fn hold(v: i64) -> u64
     if v < 0 {
         return 0;
     }
-    lesser(v as u64, 10000)
+    lesser_u64(v as u64, 10000)
 }
 
 // The refined value of a pixel, from the sums of slopes and offsets over its window and its own guide.
@@ -151,7 +146,7 @@ pub fn recovered(a: u8, i: u8, t: u64) -> u8
     let whole = t as u32;
     if light <= byte {
         let v = light + stretched(byte - light, whole);
-        return lesser(v as u64, 255) as u8;
+        return lesser_u64(v as u64, 255) as u8;
     }
     let q = stretched(light - byte, whole);
     if q < light {

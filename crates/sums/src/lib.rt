@@ -1,10 +1,12 @@
 // Sums over windows by integral images: a plane becomes its integral image in place, and four corners of it give the sum over any window.
 ghost use mathlib.Core.Path.{_≡_};
-ghost use Prim.Native.Nat.{ℕ, _+_, _-_, _*_, _≤_, _<_, min};
+ghost use Prim.Native.Nat.{ℕ, _+_, _*_, _≤_, _<_, min};
 ghost use lib.IntN.{ℤ};
 ghost use Rattle.rules.specs.Window.{Plane, square, totalZ};
 ghost use Rattle.planes.specs.Plane.{plane, Integral};
 ghost use Rattle.sums.specs.Sum.{boxSum, RowIn, RowOut, Summable, Integrated, PlanesIntegrated, Corners, Readable};
+use numbers::cut;
+use numbers::less;
 
 // ---- the integral image
 
@@ -52,18 +54,12 @@ pub fn integrate_planes(work: &mut [i64], w: usize, h: usize, first: usize, end:
 
 // ---- a window
 
-// The first number at most r from i, and the one past the last below n.
-pub fn first_of(i: usize, r: usize) -> usize
-    ensures { λ k. ⌜ k ≡ i - r ⌝ }
-{
-    if r < i { i - r } else { 0 }
-}
-
+// One past the last number at most r from i, cut at n.
 pub fn past_of(i: usize, r: usize, n: usize) -> usize
     requires { ⌜ (i < n) × (r ≤ 60) ⌝ }
     ensures { λ k. ⌜ k ≡ min n (i + r + 1) ⌝ }
 {
-    if n - i <= r { n } else { i + r + 1 }
+    cut(i, r + 1, n)
 }
 
 // The sum over the rows y0 .. y1 and the columns x0 .. x1 (the last left out), from the integral image at base.
@@ -98,9 +94,9 @@ pub fn square_sum(
     requires { ⌜ Readable (now work) base w h r y x ⌝ }
     ensures { λ s. ⌜ ((f : Plane ℤ) → Integral f (now (work .entry)) base w h → s ≡ totalZ (λ i. i) (square w h r f y x)) ⌝ }
 {
-    let y0 = first_of(y, r);
+    let y0 = less(y, r);
     let y1 = past_of(y, r, h);
-    let x0 = first_of(x, r);
+    let x0 = less(x, r);
     let x1 = past_of(x, r, w);
     window_sum(work, base, w, y0, y1, x0, x1)
 }

@@ -7,10 +7,11 @@ use native.Mathlib.Omega.{arith}
 use native.Mathlib.Numerals.{add-one}
 use lib.ListN.{length}
 use lib.IntN.{ℤ}
-use Rattle.windows.specs.Lower.{lower}
+use Rattle.numbers.specs.Lower.{lower}
 use Rattle.windows.specs.Span.{span}
 use Rattle.windows.specs.Line.{entry, spot, lane, Kept, Written, Block, Ahead, Behind}
-use Rattle.windows.proofs.Spans.{lower-assoc, span-one, span-more, span-front, span-cong}
+use Rattle.numbers.proofs.Lower.{lower-assoc}
+use Rattle.windows.proofs.Spans.{span-one, span-more, span-front, span-cong}
 use Rattle.windows.proofs.Cuts.{lt-or-ge}
 use Rattle.windows.proofs.Runs.{row-apart, block-room}
 

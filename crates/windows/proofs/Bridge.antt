@@ -8,7 +8,7 @@ use lib.IntN.{ℤ, pos}
 use Rattle.rules.specs.Window.{Plane, least, square}
 use Rattle.rules.specs.Fold.{Σ}
 use Rattle.rules.proofs.Fold.{least-square}
-use Rattle.windows.specs.Lower.{lower}
+use Rattle.numbers.specs.Lower.{lower}
 use Rattle.windows.specs.Span.{run, span, lo, hi, windowed}
 use Rattle.windows.specs.Line.{lane, LineMin}
 use Rattle.windows.specs.Plane.{RowsMin, PlaneMin}

@@ -7,7 +7,7 @@ use native.Mathlib.Nat.{mul-le-mul-left, mul-one}
 use native.Mathlib.Omega.{arith}
 use lib.ListN.{length}
 use lib.IntN.{ℤ}
-use Rattle.windows.specs.Lower.{lower}
+use Rattle.numbers.specs.Lower.{lower}
 use Rattle.windows.specs.Span.{span}
 use Rattle.windows.specs.Blocks.{start, stop}
 use Rattle.windows.specs.Count.{inBlocks, samples}

@@ -7,7 +7,7 @@ use native.Mathlib.Nat.{mul-le-mul-left, mul-left-comm, mul-comm, mul-one, add-m
 use native.Mathlib.Omega.{arith}
 use lib.ListN.{length}
 use lib.IntN.{ℤ}
-use Rattle.windows.specs.Lower.{lower}
+use Rattle.numbers.specs.Lower.{lower}
 use Rattle.windows.specs.Span.{lo, hi, windowed}
 use Rattle.windows.specs.Count.{comparisons, samples, planeComparisons}
 use Rattle.windows.specs.Line.{entry, spot, lane, Places, LineMin}

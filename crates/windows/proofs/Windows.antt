@@ -10,12 +10,12 @@ use native.Mathlib.Numerals.{add-one}
 use lib.Dec.{ltb}
 use lib.ListN.{length}
 use lib.IntN.{ℤ}
-use Rattle.windows.specs.Lower.{lower}
+use Rattle.numbers.specs.Lower.{lower}
 use Rattle.windows.specs.Span.{lo, hi}
 use Rattle.windows.specs.Blocks.{start, choose}
 use Rattle.windows.specs.Count.{tally, crossing, comparisons}
 use Rattle.windows.specs.Line.{entry, spot, lane, Runs, Written, Places, Halves, Off, Met, LineMin}
-use Rattle.windows.proofs.Spans.{lower-assoc}
+use Rattle.numbers.proofs.Lower.{lower-assoc}
 use Rattle.windows.proofs.Cuts.{lt-or-ge, start-zero, start-le, lt-start, start-start, choose-is}
 use Rattle.windows.proofs.Counts.{tally-suc, crossing-is, samples-length}
 use Rattle.windows.proofs.Runs.{row-apart}

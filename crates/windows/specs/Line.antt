@@ -5,7 +5,7 @@ use mathlib.Core.List.{List}
 use Prim.Native.Nat.{ℕ, _+_, _-_, _*_, _≤_, _<_}
 use lib.ListN.{getD, length}
 use lib.IntN.{ℤ, pos}
-use Rattle.windows.specs.Lower.{lower}
+use Rattle.numbers.specs.Lower.{lower}
 use Rattle.windows.specs.Span.{span, lo, hi, windowed}
 use Rattle.windows.specs.Blocks.{start, stop, choose}
 use Rattle.windows.specs.Count.{inBlocks, tally, crossing, comparisons, samples}

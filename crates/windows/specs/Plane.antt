@@ -6,7 +6,7 @@ use Prim.Native.Nat.{ℕ, _+_, _*_, _≤_, _<_}
 use lib.ListN.{length}
 use lib.IntN.{ℤ, pos}
 use Rattle.rules.specs.Window.{Plane, least, square}
-use Rattle.windows.specs.Lower.{lower}
+use Rattle.numbers.specs.Lower.{lower}
 use Rattle.windows.specs.Span.{windowed}
 use Rattle.windows.specs.Count.{comparisons, samples, planeComparisons}
 use Rattle.windows.specs.Line.{entry, spot, lane, Off}

@@ -5,11 +5,14 @@ ghost use mathlib.Core.Bool.{cond};
 ghost use Prim.Native.Nat.{_+_, _-_, _*_, _≤_, _<_, min};
 ghost use lib.Dec.{ltb};
 ghost use lib.ListN.{length, set};
-ghost use Rattle.windows.specs.Lower.{lower};
-ghost use Rattle.windows.specs.Span.{lo, hi};
+ghost use Rattle.numbers.specs.Lower.{lower};
+ghost use Rattle.windows.specs.Span.{hi};
 ghost use Rattle.windows.specs.Blocks.{start, choose};
 ghost use Rattle.windows.specs.Line.{entry, Runs, Written, Block, Ahead, Behind, Places, Halves, Met, LineMin};
 ghost use Rattle.windows.specs.Plane.{Area, RowsMin, PlaneMin};
+use numbers::cut;
+use numbers::less;
+use numbers::lesser_i64;
 
 // The entry at `to` becomes that at `from`.
 fn copy_one(work: &mut [i64], from: usize, to: usize)
@@ -35,19 +38,12 @@ fn copy(work: &mut [i64], from: usize, to: usize, len: usize)
     }
 }
 
-// The lower of two numbers: the one comparison that is counted.
-fn lesser(x: i64, y: i64) -> i64
-    ensures { λ r. ⌜ r ≡ lower x y ⌝ }
-{
-    if y < x { y } else { x }
-}
-
-// The entry at `to` becomes the lower of those at `a` and `b`.
+// The entry at `to` becomes the lower of those at `a` and `b`: the one comparison that is counted.
 fn join_one(work: &mut [i64], a: usize, b: usize, to: usize)
     requires { ⌜ (a < length (now work)) × (b < length (now work)) × (to < length (now work)) ⌝ }
     ensures { λ _. ⌜ now (work .exit) ≡ set (now (work .entry)) to (lower (entry (now (work .entry)) a) (entry (now (work .entry)) b)) ⌝ }
 {
-    work[to] = lesser(work[a], work[b]);
+    work[to] = lesser_i64(work[a], work[b]);
 }
 
 // The run at `to` becomes, entry by entry, the lower of those at `a` and `b`.
@@ -128,19 +124,12 @@ fn last_of(first: usize, k: usize, n: usize) -> usize
     }
 }
 
-// The first sample of the window of radius `s` about `i`.
-fn low(i: usize, s: usize) -> usize
-    ensures { λ r. ⌜ r ≡ lo s i ⌝ }
-{
-    if i < s { 0 } else { i - s }
-}
-
-// Its last sample, on a line of `n`.
+// The last sample of the window of radius `s` about `i`, on a line of `n`.
 fn high(i: usize, s: usize, n: usize) -> usize
     requires { ⌜ i < n ⌝ }
     ensures { λ r. ⌜ r ≡ hi s n i ⌝ }
 {
-    if n - i <= s { n - 1 } else { i + s }
+    cut(i, s, n - 1)
 }
 
 // The start of the block of `k` that holds `b`, which lies at most one block after that of `c`.
@@ -215,7 +204,7 @@ fn meet(
     let mut c = 0;
     let mut i = 0;
     while i < n {
-        let a = low(i, s);
+        let a = less(i, s);
         let b = high(i, s, n);
         c = block_of(c, k, b);
         count += pick(work, q + a * len, p + b * len, a, c, base + i * step, len);

@@ -22,14 +22,14 @@ loop-holds c =
     let h = least-le band in
     (omega arith, omega arith, front-none min (λ t. t) 10000 band (omega arith))
 
-mul-lesser : tie.Need-mul-lesser Inv-loop μ-loop
-mul-lesser c = search needs
+mul-lesser-u16 : tie.Need-mul-lesser-u16 Inv-loop μ-loop
+mul-lesser-u16 c = search needs
 
-shared-slice-read-lesser : tie.Need-shared-slice-read-lesser Inv-loop μ-loop
-shared-slice-read-lesser c = omega arith
+shared-slice-read-lesser-u16 : tie.Need-shared-slice-read-lesser-u16 Inv-loop μ-loop
+shared-slice-read-lesser-u16 c = omega arith
 
-lesser-requires : tie.Need-lesser-requires Inv-loop μ-loop
-lesser-requires c κs = search needs
+lesser-u16-requires : tie.Need-lesser-u16-requires Inv-loop μ-loop
+lesser-u16-requires c κs = search needs
 
 add-i : tie.Need-add-i Inv-loop μ-loop
 add-i c = omega arith
@@ -42,7 +42,7 @@ loop-again c =
     let at = c .before .before .before in
     let band = at .before .before .args .band .now in
     let l : at .loop .i < length band = omega arith in
-    (omega arith, omega (arith, c .lesser .ensures), rw (c .lesser .ensures) (front-more min (λ t. t) 10000 band min-assoc (at .loop .i) (at .loop .low) l (at .loop .inv .2)))
+    (omega arith, omega (arith, c .lesser-u16 .ensures), rw (c .lesser-u16 .ensures) (front-more min (λ t. t) 10000 band min-assoc (at .loop .i) (at .loop .low) l (at .loop .inv .2)))
 
 returns : tie.Need-returns Inv-loop μ-loop
 returns c =
@@ -55,4 +55,4 @@ returns c =
 pub least-of-spec : {M : Type 1} → statement M
 least-of-spec =
     tie.close
-    (tie.spec Inv-loop μ-loop loop-holds mul-lesser shared-slice-read-lesser lesser-requires add-i loop-less loop-again returns)
+    (tie.spec Inv-loop μ-loop loop-holds mul-lesser-u16 shared-slice-read-lesser-u16 lesser-u16-requires add-i loop-less loop-again returns)

@@ -37,16 +37,16 @@ test c = rw (v-back (c .before)) at (c .if1 .left)
 returns : tie.Need-returns
 returns c = below (c .before .args .v) (rw (v-back (c .before)) at (c .if1 .taken))
 
-cast-lesser : tie.Need-cast-lesser
-cast-lesser c = rw (v-back (c .before)) (plain (c .before .args .v) (test c) (c .before .fits .v))
+cast-lesser-u64 : tie.Need-cast-lesser-u64
+cast-lesser-u64 c = rw (v-back (c .before)) (plain (c .before .args .v) (test c) (c .before .fits .v))
 
-lesser-requires : tie.Need-lesser-requires
-lesser-requires c κs = search needs
+lesser-u64-requires : tie.Need-lesser-u64-requires
+lesser-u64-requires c κs = search needs
 
 returns-2 : tie.Need-returns-2
 returns-2 c =
     let e = above (c .before .before .args .v) (test (c .before)) in
-    rw (v-back (c .before .before)) at (c .lesser .ensures) ∙ e
+    rw (v-back (c .before .before)) at (c .lesser-u64 .ensures) ∙ e
 
 pub hold-spec : {M : Type 1} → statement M
-hold-spec = tie.close (tie.spec returns cast-lesser lesser-requires returns-2)
+hold-spec = tie.close (tie.spec returns cast-lesser-u64 lesser-u64-requires returns-2)

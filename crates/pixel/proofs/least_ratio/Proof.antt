@@ -12,15 +12,15 @@ ratio-of-requires-2 c κs = search needs
 ratio-of-requires-3 : tie.Need-ratio-of-requires-3
 ratio-of-requires-3 c κs = search needs
 
-lesser-requires : tie.Need-lesser-requires
-lesser-requires c κs = search needs
+lesser-u64-requires : tie.Need-lesser-u64-requires
+lesser-u64-requires c κs = search needs
 
-lesser-requires-2 : tie.Need-lesser-requires-2
-lesser-requires-2 c κs = search needs
+lesser-u64-requires-2 : tie.Need-lesser-u64-requires-2
+lesser-u64-requires-2 c κs = search needs
 
 returns : tie.Need-returns
 returns c = cc
 
 pub least-ratio-spec : {M : Type 1} → statement M
 least-ratio-spec =
-    tie.close (tie.spec ratio-of-requires ratio-of-requires-2 ratio-of-requires-3 lesser-requires lesser-requires-2 returns)
+    tie.close (tie.spec ratio-of-requires ratio-of-requires-2 ratio-of-requires-3 lesser-u64-requires lesser-u64-requires-2 returns)

@@ -6,20 +6,20 @@ use borrow.Author.Needs.{needs}
 use Rattle.pixel.proofs.ratio_of.Statement.{statement}
 use Rattle.pixel.proofs.ratio_of.Tie as tie
 
-mul-lesser : tie.Need-mul-lesser
-mul-lesser c = search needs
+mul-lesser-u64 : tie.Need-mul-lesser-u64
+mul-lesser-u64 c = search needs
 
-div-lesser : tie.Need-div-lesser
-div-lesser c = search needs
+div-lesser-u64 : tie.Need-div-lesser-u64
+div-lesser-u64 c = search needs
 
-cast-lesser : tie.Need-cast-lesser
-cast-lesser c = omega (arith, div-le-self (10000 * c .args .i) (c .args .a))
+cast-lesser-u64 : tie.Need-cast-lesser-u64
+cast-lesser-u64 c = omega (arith, div-le-self (10000 * c .args .i) (c .args .a))
 
-lesser-requires : tie.Need-lesser-requires
-lesser-requires c κs = search needs
+lesser-u64-requires : tie.Need-lesser-u64-requires
+lesser-u64-requires c κs = search needs
 
 returns : tie.Need-returns
 returns c = search needs
 
 pub ratio-of-spec : {M : Type 1} → statement M
-ratio-of-spec = tie.close (tie.spec mul-lesser div-lesser cast-lesser lesser-requires returns)
+ratio-of-spec = tie.close (tie.spec mul-lesser-u64 div-lesser-u64 cast-lesser-u64 lesser-u64-requires returns)

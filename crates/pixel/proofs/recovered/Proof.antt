@@ -18,11 +18,11 @@ add-v c =
     let d = c .before .before .args in
     omega (arith, rounded-le ((d .i - d .a) * 10000) (d .t) (omega arith))
 
-cast-lesser : tie.Need-cast-lesser
-cast-lesser c = search needs
+cast-lesser-u64 : tie.Need-cast-lesser-u64
+cast-lesser-u64 c = search needs
 
-lesser-requires : tie.Need-lesser-requires
-lesser-requires c κs = search needs
+lesser-u64-requires : tie.Need-lesser-u64-requires
+lesser-u64-requires c κs = search needs
 
 cast-result : tie.Need-cast-result
 cast-result c = search needs
@@ -64,8 +64,8 @@ recovered-spec =
     cast-whole
     stretched-requires
     add-v
-    cast-lesser
-    lesser-requires
+    cast-lesser-u64
+    lesser-u64-requires
     cast-result
     returns
     sub-stretched

@@ -8,22 +8,22 @@ use Rattle.rules.proofs.Integers.{back}
 use Rattle.sums.proofs.Windows.{Bounds, corners, box-square}
 
 bounds : (k : tie.After-past-of2) → let a = k .before .before .before .before .args in
-    Bounds (a .w) (a .h) (a .r) (a .y) (a .x) (k .before .before .before .first-of .result) (k .before .before .past-of .result) (k .before .first-of2 .result) (k .past-of2 .result)
+    Bounds (a .w) (a .h) (a .r) (a .y) (a .x) (k .before .before .before .less .result) (k .before .before .past-of .result) (k .before .less2 .result) (k .past-of2 .result)
 bounds k = record {
-  top = k .before .before .before .first-of .ensures;
+  top = k .before .before .before .less .ensures;
   low = k .before .before .past-of .ensures;
-  left = k .before .first-of2 .ensures;
+  left = k .before .less2 .ensures;
   right = k .past-of2 .ensures;
 }
 
-first-of-requires : tie.Need-first-of-requires
-first-of-requires c κs = search needs
+less-requires : tie.Need-less-requires
+less-requires c κs = search needs
 
 past-of-requires : tie.Need-past-of-requires
 past-of-requires c κs = search needs
 
-first-of-requires-2 : tie.Need-first-of-requires-2
-first-of-requires-2 c κs = search needs
+less-requires-2 : tie.Need-less-requires-2
+less-requires-2 c κs = search needs
 
 past-of-requires-2 : tie.Need-past-of-requires-2
 past-of-requires-2 c κs = search needs
@@ -43,9 +43,9 @@ pub square-sum-spec : {M : Type 1} → statement M
 square-sum-spec =
     tie.close
     (tie.spec
-    first-of-requires
+    less-requires
     past-of-requires
-    first-of-requires-2
+    less-requires-2
     past-of-requires-2
     window-sum-requires
     returns)

@@ -3,7 +3,7 @@ use mathlib.Core.Path.{_≡_, refl, ap₂, _∙_}
 use Prim.Native.Nat.{_+_, _-_, _≤_}
 use native.Mathlib.Omega.{arith}
 use lib.ListN.{length}
-use Rattle.windows.specs.Lower.{lower}
+use Rattle.numbers.specs.Lower.{lower}
 use Rattle.windows.specs.Line.{entry, Written}
 use Rattle.windows.proofs.Runs.{written-none, written-more, written-one, unwritten, first-entry}
 use Rattle.windows.proofs.join.Statement.{statement}

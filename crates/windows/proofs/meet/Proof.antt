@@ -26,8 +26,8 @@ add-k c = omega arith
 loop-holds : tie.Need-loop-holds Inv-loop μ-loop
 loop-holds c = (met-none _ _ _ _ _ _ _ (c .pre .1) _, sym (tally-none _), omega arith)
 
-low-requires : tie.Need-low-requires Inv-loop μ-loop
-low-requires c κs = tt
+less-requires : tie.Need-less-requires Inv-loop μ-loop
+less-requires c κs = tt
 
 high-requires : tie.Need-high-requires Inv-loop μ-loop
 high-requires c κs = omega arith
@@ -39,14 +39,14 @@ block-of-requires c κs =
 
 -- the runs that are read and written
 runs : (c : tie.After-high Inv-loop μ-loop) → let l = c .before .before .before in let a = l .before .args in
-    Runs (l .loop .work) (a .q + c .before .low .result * a .len) (a .base + l .loop .i * a .step) (a .len)
+    Runs (l .loop .work) (a .q + c .before .less .result * a .len) (a .base + l .loop .i * a .step) (a .len)
     × Runs (l .loop .work) (a .p + c .high .result * a .len) (a .base + l .loop .i * a .step) (a .len)
 runs c =
     let l = c .before .before .before in
     let h = l .before .pre .1 in
     let z = l .loop .inv .0 .size in
     let t = c .before .before .loop-test .taken in (
-      pick-runs _ _ _ _ _ _ _ h _ _ (c .before .low .result) (l .loop .i) z (omega (arith, h .next)) (omega arith) (omega arith) t,
+      pick-runs _ _ _ _ _ _ _ h _ _ (c .before .less .result) (l .loop .i) z (omega (arith, h .next)) (omega arith) (omega arith) t,
       pick-runs _ _ _ _ _ _ _ h _ _ (c .high .result) (l .loop .i) z (omega arith) (omega (arith, h .next)) (omega arith) t,
     )
 
@@ -76,7 +76,7 @@ counted : (c : tie.After-work Inv-loop μ-loop) → let l = c .before .before .b
 counted c =
     let l = c .before .before .before .before .before .before .before in
     cross-more _ _ _ _ _ _ _ (l .before .pre .1) _ _ (l .loop .c) _ (l .loop .i) _ _ (l .loop .inv .0) (c .before .before .before .before .before .before .loop-test .taken)
-    (c .before .before .before .before .before .low .ensures)
+    (c .before .before .before .before .before .less .ensures)
     (c .before .before .before .before .high .ensures)
     (c .before .before .before .block-of .ensures)
     (l .loop .count)
@@ -103,7 +103,7 @@ loop-again : tie.Need-loop-again Inv-loop μ-loop
 loop-again c =
     let l = c .before .before .before .before .before .before .before in
     let t = c .before .before .before .before .before .before .loop-test .taken in (
-      met-more _ _ _ _ _ _ _ (l .before .pre .1) _ _ (l .loop .c) _ (l .loop .i) _ _ (l .loop .inv .0) t (c .before .before .before .before .before .low .ensures)
+      met-more _ _ _ _ _ _ _ (l .before .pre .1) _ _ (l .loop .c) _ (l .loop .i) _ _ (l .loop .inv .0) t (c .before .before .before .before .before .less .ensures)
           (c .before .before .before .before .high .ensures)
           (c .before .before .before .block-of .ensures)
           _
@@ -136,7 +136,7 @@ meet-spec =
     mul-k
     add-k
     loop-holds
-    low-requires
+    less-requires
     high-requires
     block-of-requires
     mul-pick

@@ -5,7 +5,7 @@ use Prim.Native.Nat.{ℕ, _≤_, _<_}
 use native.Mathlib.Omega.{arith}
 use borrow.Author.Tests.{lt-ltb, le-ltb}
 use borrow.Author.Needs.{needs}
-use Rattle.windows.specs.Lower.{lower}
+use Rattle.numbers.specs.Lower.{lower}
 use Rattle.windows.proofs.Cuts.{lt-or-ge, choose-two, choose-start, choose-end}
 use Rattle.windows.proofs.Runs.{written-as}
 use Rattle.windows.proofs.pick.Statement.{statement}

@@ -1,11 +1,11 @@
--- `windows::lesser` meets its contract: each return reads its number back from its bits. Assumes nothing.
+-- `numbers::lesser_i64` meets its contract: each return reads its number back from its bits. Assumes nothing.
 use mathlib.Core.Path.{_≡_, _∙_, sym}
 use mathlib.Core.Bool.{true, false}
 use mir.Facts.{toZ-ofZ}
 use lib.Signed.{ltZ}
-use Rattle.windows.proofs.Spans.{lower-first, lower-second}
-use Rattle.windows.proofs.lesser.Statement.{statement}
-use Rattle.windows.proofs.lesser.Tie as tie
+use Rattle.numbers.proofs.Lower.{lower-first, lower-second}
+use Rattle.numbers.proofs.lesser_i64.Statement.{statement}
+use Rattle.numbers.proofs.lesser_i64.Tie as tie
 
 returns : tie.Need-returns
 returns c =
@@ -17,5 +17,5 @@ returns-2 c =
     let t : ltZ (c .before .args .y) (c .before .args .x) ≡ false = simp (toZ-ofZ (c .before .fits .x), toZ-ofZ (c .before .fits .y)) at (c .if1 .left) in
     toZ-ofZ (c .before .fits .x) ∙ sym (lower-first _ _ t)
 
-pub lesser-spec : {M : Type 1} → statement M
-lesser-spec = tie.close (tie.spec returns returns-2)
+pub lesser-i64-spec : {M : Type 1} → statement M
+lesser-i64-spec = tie.close (tie.spec returns returns-2)
