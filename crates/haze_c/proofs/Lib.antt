@@ -1,4 +1,2 @@
--- The laws of the C boundary.
-pub mod Unique
+-- The laws of the exported functions for frames.
 pub mod Told
-pub mod ToldFiles

@@ -1,9 +1,8 @@
--- From the promise of a public call to that of its exported function: the answer that was told is the number that is returned, and result places are
--- written exactly when that is 0. Assumes nothing.
-use mathlib.Core.Path.{_≡_, refl, ap, _∙_}
+-- From the promise of a public call to that of its exported function. The values that the call was handed are those that C handed over. Assumes nothing.
+use mathlib.Core.Path.{_≡_, refl}
 use Prim.Native.Nat.{ℕ, zero, suc}
 use mathlib.Core.List.{List}
-use native.Mathlib.Omega.{arith}
+use lib.ListN.{length}
 use lib.IntN.{ℤ}
 use Rattle.rules.specs.declared.Size.{Size}
 use Rattle.rules.specs.declared.Settings.{Settings}
@@ -12,115 +11,76 @@ use Rattle.rules.specs.declared.Rect.{Rect}
 use Rattle.rules.specs.declared.Figure.{Figure}
 use Rattle.rules.specs.declared.Answer.{Answer}
 use Rattle.rules.specs.declared.Found.{Found}
-use Rattle.rules.specs.declared.Found.the-variants as found
 use Rattle.rules.specs.declared.Band.{Band}
-use Rattle.rules.specs.declared.Band.the-variants as band
-use Rattle.rules.specs.Promise.{answered, said, foundOr, figureOr, unless, Lent, Lights, Clears, Replaces, Hazes, Bands}
-use Rattle.rules.proofs.Exactly.{said-answered}
-use Rattle.depth.specs.Promise.{Depths}
-use Rattle.haze_c.specs.Depths.{DepthsReturns}
-use Rattle.haze_c.specs.Returns.{Returns, LightPlaces, LightReturns, ClearReturns, ReplaceReturns, AddReturns, BandReturns}
+use Rattle.rules.specs.Shape.{described}
+use Rattle.rules.specs.Light.{light}
+use Rattle.rules.specs.Buffers.{pixels}
+use Rattle.rules.specs.Refusals.{refuseLight}
+use Rattle.rules.specs.Promise.{said, foundOr, foundSaid, figureOr, bandSaid, unless, wiped, Lent, Lights, Clears, Replaces, Hazes, Bands}
+use Rattle.rules.proofs.Exactly.{said-found, said-band}
+use Rattle.boundary.specs.Handed.{lightAfter, figureAfter}
+use Rattle.boundary.proofs.Told.{answered-returns, valued-returns, unless-both}
+use Rattle.haze_c.specs.Calls.{lightPlaces, LightReturns, ClearReturns, ReplaceReturns, AddReturns, BandReturns}
 
--- ---- an answer with no value: n is its number
-
-pub answered-returns :
-    {A : Type 0} (refusal : ℕ) (new old m : A) {r : Answer} {n : ℕ}
-    → r ≡ answered refusal
-    → m ≡ unless refusal new old
-    → n ≡ said r
-    → Returns refusal new old n m
-answered-returns refusal new old m e after told = record { number = told ∙ ap said e ∙ said-answered refusal; after = after }
+-- ---- an answer with no value
 
 pub clear-returns :
-    {z z′ : Size} {k k′ : Settings} {a : Rgb} {l m : Lent} {r : Answer} {n : ℕ}
+    {z z′ : Size} {k k′ : Settings} {a a′ : Rgb} {l m : Lent} {r : Answer} {n : ℕ}
     → z ≡ z′
     → k ≡ k′
+    → a ≡ a′
     → Clears z k a l r m
     → n ≡ said r
-    → ClearReturns z′ k′ a l n m
-clear-returns sized same p told = rw (← sized, ← same) (answered-returns _ _ _ _ (p .answer) (p .after) told)
+    → ClearReturns z′ k′ a′ l n m
+clear-returns sized set lit p told = rw (← sized, ← set, ← lit) (answered-returns _ _ _ _ (p .answer) (p .after) told)
 
 pub replace-returns :
-    {z z′ : Size} {k k′ : Settings} {a : Rgb} {c : Rect} {new : List ℕ} {l m : Lent} {r : Answer} {n : ℕ}
+    {z z′ : Size} {k k′ : Settings} {a a′ : Rgb} {c c′ : Rect} {new : List ℕ} {l m : Lent} {r : Answer} {n : ℕ}
     → z ≡ z′
     → k ≡ k′
+    → a ≡ a′
+    → c ≡ c′
     → Replaces z k a c new l r m
     → n ≡ said r
-    → ReplaceReturns z′ k′ a c new l n m
-replace-returns sized same p told = rw (← sized, ← same) (answered-returns _ _ _ _ (p .answer) (p .after) told)
+    → ReplaceReturns z′ k′ a′ c′ new l n m
+replace-returns sized set lit placed p told = rw (← sized, ← set, ← lit, ← placed) (answered-returns _ _ _ _ (p .answer) (p .after) told)
 
 pub add-returns :
-    {z z′ : Size} {a : Rgb} {clean map out out′ : List ℕ} {r : Answer} {n : ℕ}
+    {z z′ : Size} {a a′ : Rgb} {clean map out out′ : List ℕ} {r : Answer} {n : ℕ}
     → z ≡ z′
+    → a ≡ a′
     → Hazes z a clean map out r out′
     → n ≡ said r
-    → AddReturns z′ a clean map out n out′
-add-returns sized p told = rw (← sized) (answered-returns _ _ _ _ (p .answer) (p .after) told)
+    → AddReturns z′ a′ clean map out n out′
+add-returns sized lit p told = rw (← sized, ← lit) (answered-returns _ _ _ _ (p .answer) (p .after) told)
 
-pub depths-returns :
-    {z z′ : Size} {entries out out′ : List ℕ} {r : Answer} {n : ℕ}
-    → z ≡ z′
-    → Depths z entries out r out′
-    → n ≡ said r
-    → DepthsReturns z′ entries out n out′
-depths-returns sized p told = rw (← sized) (answered-returns _ _ _ _ (p .answer) (p .after) told)
+-- ---- an answer with a value
 
--- ---- an answer with a value: a case for what is found, and one for a refusal, which leaves the places as they were
+light-after : (k : ℕ) (new old : Rgb) → lightAfter (foundOr k new) old ≡ unless k new old
+light-after zero new old = refl
+light-after (suc k) new old = refl
 
-found-light :
-    (refusal : ℕ) (new p a : Rgb) (w w′ v : List ℤ)
-    → found.Light a ≡ foundOr refusal new
-    → v ≡ unless refusal w′ w
-    → Returns {A = LightPlaces} refusal (record { work = w′; light = new }) (record { work = w; light = p }) 0 (record { work = v; light = a })
-found-light zero new p a w w′ v e after = record { number = refl; after = cc }
-found-light (suc n) new p a w w′ v e after = absurd (let z : _≡_ {A = ℕ} 0 1 = cc in omega arith)
-
-found-refused :
-    (refusal : ℕ) (new p : Rgb) (w w′ v : List ℤ) (n : ℕ)
-    → found.Refused n ≡ foundOr refusal new
-    → v ≡ unless refusal w′ w
-    → Returns {A = LightPlaces} refusal (record { work = w′; light = new }) (record { work = w; light = p }) n (record { work = v; light = p })
-found-refused zero new p w w′ v n e after = absurd (let z : _≡_ {A = ℕ} 0 1 = cc in omega arith)
-found-refused (suc m) new p w w′ v n e after = record { number = cc; after = cc }
-
-pub light-found :
-    {z z′ : Size} {k k′ : Settings} {frame : List ℕ} {w v : List ℤ} {p a : Rgb} {r : Found}
+pub light-returns :
+    {z z′ : Size} {k k′ : Settings} {frame : List ℕ} {w v : List ℤ} {p a : Rgb} {r : Found} {n : ℕ}
     → z ≡ z′
     → k ≡ k′
     → Lights z k frame w r v
-    → r ≡ found.Light a
-    → LightReturns z′ k′ frame (record { work = w; light = p }) 0 (record { work = v; light = a })
-light-found sized same q told = rw (← sized, ← same) (found-light _ _ _ _ _ _ _ (cc) (q .after))
+    → (n ≡ foundSaid r) × (a ≡ lightAfter r p)
+    → LightReturns z′ k′ frame (lightPlaces w p) n (lightPlaces v a)
+light-returns {z} {k} {frame} {w} {p} sized set q told =
+    let f = refuseLight z k (length frame) (length w) in
+    let new = light (described z) k (pixels (described z) frame) in
+    let e = valued-returns foundSaid lightAfter foundOr said-found light-after f new p (q .answer) told in
+    rw (← sized, ← set) (record { number = e .number; after = rw (q .after, e .after) (unless-both lightPlaces f (wiped (described z) w) w new p) })
 
-pub light-refused :
-    {z z′ : Size} {k k′ : Settings} {frame : List ℕ} {w v : List ℤ} {p : Rgb} {r : Found} {n : ℕ}
-    → z ≡ z′
-    → k ≡ k′
-    → Lights z k frame w r v
-    → r ≡ found.Refused n
-    → LightReturns z′ k′ frame (record { work = w; light = p }) n (record { work = v; light = p })
-light-refused sized same q told = rw (← sized, ← same) (found-refused _ _ _ _ _ _ _ (cc) (q .after))
+figure-after : (k : ℕ) (new old : Figure) → figureAfter (figureOr k new) old ≡ unless k new old
+figure-after zero new old = refl
+figure-after (suc k) new old = refl
 
-figure-figure : (refusal : ℕ) (new old f : Figure) → band.Figure f ≡ figureOr refusal new → Returns refusal new old 0 f
-figure-figure zero new old f e = record { number = refl; after = cc }
-figure-figure (suc n) new old f e = absurd (let z : _≡_ {A = ℕ} 0 1 = cc in omega arith)
-
-figure-refused : (refusal : ℕ) (new old : Figure) (n : ℕ) → band.Refused n ≡ figureOr refusal new → Returns refusal new old n old
-figure-refused zero new old n e = absurd (let z : _≡_ {A = ℕ} 0 1 = cc in omega arith)
-figure-refused (suc m) new old n e = record { number = cc; after = refl }
-
-pub band-figure :
-    {z z′ : Size} {map : List ℕ} {start end : ℕ} {old f : Figure} {r : Band}
+pub band-returns :
+    {z z′ : Size} {map : List ℕ} {start end : ℕ} {p f : Figure} {r : Band} {n : ℕ}
     → z ≡ z′
     → Bands z map start end r
-    → r ≡ band.Figure f
-    → BandReturns z′ map start end old 0 f
-band-figure sized q told = rw (← sized) (figure-figure _ _ _ _ (cc))
-
-pub band-refused :
-    {z z′ : Size} {map : List ℕ} {start end : ℕ} {old : Figure} {r : Band} {n : ℕ}
-    → z ≡ z′
-    → Bands z map start end r
-    → r ≡ band.Refused n
-    → BandReturns z′ map start end old n old
-band-refused sized q told = rw (← sized) (figure-refused _ _ _ _ (cc))
+    → (n ≡ bandSaid r) × (f ≡ figureAfter r p)
+    → BandReturns z′ map start end p n f
+band-returns sized q told = rw (← sized) (valued-returns bandSaid figureAfter figureOr said-band figure-after _ _ _ (q .answer) told)

@@ -1,4 +1,2 @@
--- The definitions that the contracts of the C boundary cite.
-pub mod Returns
-pub mod Depths
-pub mod Netpbm
+-- The definitions that the contracts of the exported functions for frames cite.
+pub mod Calls

@@ -1,0 +1,3 @@
+-- The definitions that the contracts of the libraries for C share.
+pub mod Handed
+pub mod Returns

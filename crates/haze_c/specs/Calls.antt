@@ -1,0 +1,49 @@
+-- What the exported functions for frames promise, as instances of the one promise. Assumes nothing.
+use Prim.Native.Nat.{ℕ}
+use mathlib.Core.List.{List}
+use lib.ListN.{length}
+use lib.IntN.{ℤ}
+use Rattle.rules.specs.declared.Size.{Size}
+use Rattle.rules.specs.declared.Settings.{Settings}
+use Rattle.rules.specs.declared.Rgb.{Rgb}
+use Rattle.rules.specs.declared.Rect.{Rect}
+use Rattle.rules.specs.declared.Figure.{Figure}
+use Rattle.rules.specs.Shape.{described}
+use Rattle.rules.specs.Light.{light}
+use Rattle.rules.specs.Picture.{figure}
+use Rattle.rules.specs.Buffers.{pixels, hazed, clear, replace}
+use Rattle.rules.specs.Refusals.{refuseLight, refuseHaze, refuseBand}
+use Rattle.rules.specs.Promise.{wiped, Lent, state, lent, noClear, noReplace}
+use Rattle.boundary.specs.Returns.{Returns}
+
+-- what Clear and Replace may write
+abbrev pub lentOf : List ℕ → List ℕ → List ℕ → List ℤ → Lent
+lentOf frame map picture work = record { frame = frame; map = map; picture = picture; work = work }
+
+-- what Light may write: the work area and the place of its light
+pub record LightPlaces : Type 0 where
+  pub work : List ℤ
+  pub light : Rgb
+
+abbrev pub lightPlaces : List ℤ → Rgb → LightPlaces
+lightPlaces work a = record { work = work; light = a }
+
+abbrev pub LightReturns : Size → Settings → List ℕ → LightPlaces → ℕ → LightPlaces → Type 0
+LightReturns z k frame p =
+    Returns
+    (refuseLight z k (length frame) (length (p .work)))
+    (lightPlaces (wiped (described z) (p .work)) (light (described z) k (pixels (described z) frame)))
+    p
+
+abbrev pub ClearReturns : Size → Settings → Rgb → Lent → ℕ → Lent → Type 0
+ClearReturns z k a l = Returns (noClear z k a l) (lent (clear (described z) k a (l .frame)) (wiped (described z) (l .work))) l
+
+abbrev pub ReplaceReturns : Size → Settings → Rgb → Rect → List ℕ → Lent → ℕ → Lent → Type 0
+ReplaceReturns z k a c new l =
+    Returns (noReplace z k a c new l) (lent (replace (described z) k a c new (state l)) (wiped (described z) (l .work))) l
+
+abbrev pub AddReturns : Size → Rgb → List ℕ → List ℕ → List ℕ → ℕ → List ℕ → Type 0
+AddReturns z a clean map hazy = Returns (refuseHaze z a (length clean) map (length hazy)) (hazed (described z) a clean map) hazy
+
+abbrev pub BandReturns : Size → List ℕ → ℕ → ℕ → Figure → ℕ → Figure → Type 0
+BandReturns z map start end f = Returns (refuseBand z map start end) (figure (described z) map start end) f

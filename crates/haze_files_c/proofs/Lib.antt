@@ -1,0 +1,2 @@
+-- The laws of the exported functions for files and depths.
+pub mod Told

@@ -1,0 +1,3 @@
+-- The definitions that the contracts of the exported functions for files and depths cite.
+pub mod Depths
+pub mod Netpbm
