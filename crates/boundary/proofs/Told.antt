@@ -3,8 +3,8 @@
 use mathlib.Core.Path.{_≡_, refl, ap, _∙_}
 use Prim.Native.Nat.{ℕ, zero, suc}
 use Rattle.rules.specs.declared.Answer.{Answer}
-use Rattle.rules.specs.Promise.{answered, said, unless}
-use Rattle.rules.proofs.Exactly.{said-answered}
+use Rattle.rules.specs.Promise.{or, answered, said, unless}
+use Rattle.rules.proofs.Answers.{said-answered, or-said, or-left}
 use Rattle.boundary.specs.Returns.{Returns}
 
 -- an answer with no value
@@ -16,21 +16,20 @@ pub answered-returns :
     → Returns refusal new old n m
 answered-returns refusal new old m e after told = record { number = told ∙ ap said e ∙ said-answered refusal; after = after }
 
--- An answer with a value: `says` is its number, `leaves` what stands in the places after it, by what stood there. An answer made of refusal number and
--- value (`made`) must say that number, and leave the value or what stood there.
+-- An answer with a value, in the case `ok` or `bad`: `says` is its number, `leaves` what stands in the places after it, by what stood there.
 module _
-    {A B : Type 0} (says : A → ℕ) (leaves : A → B → B) (made : ℕ → B → A)
-    (says-made : (k : ℕ) (new : B) → says (made k new) ≡ k)
-    (leaves-made : (k : ℕ) (new old : B) → leaves (made k new) old ≡ unless k new old) where
+    {A B : Type 0} (ok : B → A) (bad : ℕ → A) (says : A → ℕ) (leaves : A → B → B)
+    (ok-says : (v : B) → says (ok v) ≡ 0) (bad-says : (n : ℕ) → says (bad n) ≡ n)
+    (ok-leaves : (v old : B) → leaves (ok v) old ≡ v) (bad-leaves : (n : ℕ) (old : B) → leaves (bad n) old ≡ old) where
   pub valued-returns :
       (refusal : ℕ) (new old : B) {r : A} {n : ℕ} {m : B}
-      → r ≡ made refusal new
+      → r ≡ or ok bad refusal new
       → (n ≡ says r) × (m ≡ leaves r old)
       → Returns refusal new old n m
   valued-returns refusal new old e told =
       record {
-        number = told .0 ∙ ap says e ∙ says-made refusal new;
-        after = told .1 ∙ ap (λ (a : A). leaves a old) e ∙ leaves-made refusal new old;
+        number = told .0 ∙ ap says e ∙ or-said ok bad says ok-says bad-says refusal new;
+        after = told .1 ∙ ap (λ (a : A). leaves a old) e ∙ or-left ok bad leaves ok-leaves bad-leaves refusal new old;
       }
 
 -- two places that are written by the same calls are one

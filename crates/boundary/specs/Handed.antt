@@ -12,6 +12,7 @@ use Rattle.rules.specs.declared.Found.{Found}
 use Rattle.rules.specs.declared.Found.the-variants as found
 use Rattle.rules.specs.declared.Band.{Band}
 use Rattle.rules.specs.declared.Band.the-variants as band
+use Rattle.rules.specs.Setup.{Setup, handed}
 
 -- ---- numbers and arrays
 
@@ -29,6 +30,10 @@ rectIn l = record { x = getD l 0 0; y = getD l 1 0; w = getD l 2 0; h = getD l 3
 
 abbrev pub figureIn : Float → Float → Figure
 figureIn mean least = record { mean = mean; least = least }
+
+-- size, settings and light together
+abbrev pub setupIn : ℕ → ℕ → List ℕ → List ℕ → Setup
+setupIn w h settings lights = handed (size w h) (settingsIn settings) (rgbIn lights)
 
 -- ---- places for results
 

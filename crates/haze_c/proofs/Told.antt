@@ -1,6 +1,6 @@
 -- From the promise of a public call to that of its exported function. The values that the call was handed are those that C handed over. Assumes nothing.
 use mathlib.Core.Path.{_≡_, refl}
-use Prim.Native.Nat.{ℕ, zero, suc}
+use Prim.Native.Nat.{ℕ}
 use mathlib.Core.List.{List}
 use lib.ListN.{length}
 use lib.IntN.{ℤ}
@@ -11,13 +11,15 @@ use Rattle.rules.specs.declared.Rect.{Rect}
 use Rattle.rules.specs.declared.Figure.{Figure}
 use Rattle.rules.specs.declared.Answer.{Answer}
 use Rattle.rules.specs.declared.Found.{Found}
+use Rattle.rules.specs.declared.Found.the-variants as found
 use Rattle.rules.specs.declared.Band.{Band}
+use Rattle.rules.specs.declared.Band.the-variants as band
+use Rattle.rules.specs.Setup.{handed}
 use Rattle.rules.specs.Shape.{described}
 use Rattle.rules.specs.Light.{light}
 use Rattle.rules.specs.Buffers.{pixels}
 use Rattle.rules.specs.Refusals.{refuseLight}
-use Rattle.rules.specs.Promise.{said, foundOr, foundSaid, figureOr, bandSaid, unless, wiped, Lent, Lights, Clears, Replaces, Hazes, Bands}
-use Rattle.rules.proofs.Exactly.{said-found, said-band}
+use Rattle.rules.specs.Promise.{said, foundSaid, bandSaid, wiped, Lent, Lights, Clears, Replaces, Hazes, Bands}
 use Rattle.boundary.specs.Handed.{lightAfter, figureAfter}
 use Rattle.boundary.proofs.Told.{answered-returns, valued-returns, unless-both}
 use Rattle.haze_c.specs.Calls.{lightPlaces, LightReturns, ClearReturns, ReplaceReturns, AddReturns, BandReturns}
@@ -29,9 +31,9 @@ pub clear-returns :
     → z ≡ z′
     → k ≡ k′
     → a ≡ a′
-    → Clears z k a l r m
+    → Clears (handed z k a) l r m
     → n ≡ said r
-    → ClearReturns z′ k′ a′ l n m
+    → ClearReturns (handed z′ k′ a′) l n m
 clear-returns sized set lit p told = rw (← sized, ← set, ← lit) (answered-returns _ _ _ _ (p .answer) (p .after) told)
 
 pub replace-returns :
@@ -40,9 +42,9 @@ pub replace-returns :
     → k ≡ k′
     → a ≡ a′
     → c ≡ c′
-    → Replaces z k a c new l r m
+    → Replaces (handed z k a) c new l r m
     → n ≡ said r
-    → ReplaceReturns z′ k′ a′ c′ new l n m
+    → ReplaceReturns (handed z′ k′ a′) c′ new l n m
 replace-returns sized set lit placed p told = rw (← sized, ← set, ← lit, ← placed) (answered-returns _ _ _ _ (p .answer) (p .after) told)
 
 pub add-returns :
@@ -56,10 +58,6 @@ add-returns sized lit p told = rw (← sized, ← lit) (answered-returns _ _ _ _
 
 -- ---- an answer with a value
 
-light-after : (k : ℕ) (new old : Rgb) → lightAfter (foundOr k new) old ≡ unless k new old
-light-after zero new old = refl
-light-after (suc k) new old = refl
-
 pub light-returns :
     {z z′ : Size} {k k′ : Settings} {frame : List ℕ} {w v : List ℤ} {p a : Rgb} {r : Found} {n : ℕ}
     → z ≡ z′
@@ -70,12 +68,9 @@ pub light-returns :
 light-returns {z} {k} {frame} {w} {p} sized set q told =
     let f = refuseLight z k (length frame) (length w) in
     let new = light (described z) k (pixels (described z) frame) in
-    let e = valued-returns foundSaid lightAfter foundOr said-found light-after f new p (q .answer) told in
+    let e =
+    valued-returns found.Light found.Refused foundSaid lightAfter (λ v. refl) (λ n. refl) (λ v old. refl) (λ n old. refl) f new p (q .answer) told in
     rw (← sized, ← set) (record { number = e .number; after = rw (q .after, e .after) (unless-both lightPlaces f (wiped (described z) w) w new p) })
-
-figure-after : (k : ℕ) (new old : Figure) → figureAfter (figureOr k new) old ≡ unless k new old
-figure-after zero new old = refl
-figure-after (suc k) new old = refl
 
 pub band-returns :
     {z z′ : Size} {map : List ℕ} {start end : ℕ} {p f : Figure} {r : Band} {n : ℕ}
@@ -83,4 +78,6 @@ pub band-returns :
     → Bands z map start end r
     → (n ≡ bandSaid r) × (f ≡ figureAfter r p)
     → BandReturns z′ map start end p n f
-band-returns sized q told = rw (← sized) (valued-returns bandSaid figureAfter figureOr said-band figure-after _ _ _ (q .answer) told)
+band-returns sized q told =
+    rw (← sized)
+    (valued-returns band.Figure band.Refused bandSaid figureAfter (λ v. refl) (λ n. refl) (λ v old. refl) (λ n old. refl) _ _ _ (q .answer) told)

@@ -11,14 +11,11 @@ use Rattle.rules.specs.declared.Figure.{Figure}
 use Rattle.rules.specs.Shape.{described}
 use Rattle.rules.specs.Light.{light}
 use Rattle.rules.specs.Picture.{figure}
-use Rattle.rules.specs.Buffers.{pixels, hazed, clear, replace}
+use Rattle.rules.specs.Setup.{Setup}
+use Rattle.rules.specs.Buffers.{pixels, hazed}
 use Rattle.rules.specs.Refusals.{refuseLight, refuseHaze, refuseBand}
-use Rattle.rules.specs.Promise.{wiped, Lent, state, lent, noClear, noReplace}
+use Rattle.rules.specs.Promise.{wiped, Lent, noClear, noReplace, afterClear, afterReplace}
 use Rattle.boundary.specs.Returns.{Returns}
-
--- what Clear and Replace may write
-abbrev pub lentOf : List ℕ → List ℕ → List ℕ → List ℤ → Lent
-lentOf frame map picture work = record { frame = frame; map = map; picture = picture; work = work }
 
 -- what Light may write: the work area and the place of its light
 pub record LightPlaces : Type 0 where
@@ -35,12 +32,11 @@ LightReturns z k frame p =
     (lightPlaces (wiped (described z) (p .work)) (light (described z) k (pixels (described z) frame)))
     p
 
-abbrev pub ClearReturns : Size → Settings → Rgb → Lent → ℕ → Lent → Type 0
-ClearReturns z k a l = Returns (noClear z k a l) (lent (clear (described z) k a (l .frame)) (wiped (described z) (l .work))) l
+abbrev pub ClearReturns : Setup → Lent → ℕ → Lent → Type 0
+ClearReturns p l = Returns (noClear p l) (afterClear p l) l
 
-abbrev pub ReplaceReturns : Size → Settings → Rgb → Rect → List ℕ → Lent → ℕ → Lent → Type 0
-ReplaceReturns z k a c new l =
-    Returns (noReplace z k a c new l) (lent (replace (described z) k a c new (state l)) (wiped (described z) (l .work))) l
+abbrev pub ReplaceReturns : Setup → Rect → List ℕ → Lent → ℕ → Lent → Type 0
+ReplaceReturns p c new l = Returns (noReplace p c new l) (afterReplace p c new l) l
 
 abbrev pub AddReturns : Size → Rgb → List ℕ → List ℕ → List ℕ → ℕ → List ℕ → Type 0
 AddReturns z a clean map hazy = Returns (refuseHaze z a (length clean) map (length hazy)) (hazed (described z) a clean map) hazy

@@ -1,7 +1,8 @@
 // The library for C, frames: exported functions, each one public call. Settings, a light and a rectangle are arrays, which the header declares as structs.
 // Each returns 0 or the refusal number, and on a refusal nothing that it was lent changes, result places included.
-ghost use Rattle.boundary.specs.Handed.{size, settingsIn, rgbIn, rectIn, figureIn};
-ghost use Rattle.haze_c.specs.Calls.{lentOf, lightPlaces, LightReturns, ClearReturns, ReplaceReturns, AddReturns, BandReturns};
+ghost use Rattle.rules.specs.Promise.{lentOf};
+ghost use Rattle.boundary.specs.Handed.{size, settingsIn, rgbIn, rectIn, setupIn, figureIn};
+ghost use Rattle.haze_c.specs.Calls.{lightPlaces, LightReturns, ClearReturns, ReplaceReturns, AddReturns, BandReturns};
 use boundary::figured;
 use boundary::lit;
 use boundary::number;
@@ -43,7 +44,7 @@ pub extern "C" fn haze_clear(
     picture: &mut [u8],
     work: &mut [i64],
 ) -> u8
-    ensures { λ n. ⌜ ClearReturns (size w h) (settingsIn (now (settings .entry))) (rgbIn (now (lights .entry)))
+    ensures { λ n. ⌜ ClearReturns (setupIn w h (now (settings .entry)) (now (lights .entry)))
         (lentOf (now (frame .entry)) (now (map .entry)) (now (picture .entry)) (now (work .entry)))
         n
         (lentOf (now (frame .entry)) (now (map .exit)) (now (picture .exit)) (now (work .exit))) ⌝ }
@@ -73,7 +74,7 @@ pub extern "C" fn haze_replace(
     picture: &mut [u8],
     work: &mut [i64],
 ) -> u8
-    ensures { λ n. ⌜ ReplaceReturns (size w h) (settingsIn (now (settings .entry))) (rgbIn (now (lights .entry))) (rectIn (now (rect .entry))) (now (pixels .entry))
+    ensures { λ n. ⌜ ReplaceReturns (setupIn w h (now (settings .entry)) (now (lights .entry))) (rectIn (now (rect .entry))) (now (pixels .entry))
         (lentOf (now (frame .entry)) (now (map .entry)) (now (picture .entry)) (now (work .entry)))
         n
         (lentOf (now (frame .exit)) (now (map .exit)) (now (picture .exit)) (now (work .exit))) ⌝ }

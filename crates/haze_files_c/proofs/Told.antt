@@ -1,20 +1,20 @@
 -- From the promise of a public call to that of its exported function, for files and depths. Assumes nothing.
 use mathlib.Core.Path.{_≡_, refl, sym, _∙_}
 use mathlib.Core.Bool.{Bool, true, false, cond}
-use Prim.Native.Nat.{ℕ, zero, suc}
+use Prim.Native.Nat.{ℕ}
 use mathlib.Core.List.{List}
 use lib.ListN.{length}
 use native.Mathlib.Omega.{arith}
 use Rattle.rules.specs.declared.Size.{Size}
 use Rattle.rules.specs.declared.Answer.{Answer}
-use Rattle.rules.specs.Promise.{said, unless}
+use Rattle.rules.specs.Promise.{said}
 use Rattle.depth.specs.Promise.{Depths}
 use Rattle.pnm.specs.declared.Head.{Head}
 use Rattle.pnm.specs.declared.Head.the-variants as head
 use Rattle.pnm.specs.Header.{good, headerOf}
 use Rattle.ppm.specs.declared.Taken.{Taken}
+use Rattle.ppm.specs.declared.Taken.the-variants as taken
 use Rattle.ppm.specs.Promise.{size, pixels, refuseSize, refuseRead, frameOr, takenSaid, Sizes, Reads, Writes}
-use Rattle.ppm.proofs.Exactly.{said-taken}
 use Rattle.boundary.specs.Returns.{Returns}
 use Rattle.boundary.proofs.Told.{answered-returns, valued-returns, unless-both}
 use Rattle.haze_files_c.specs.Depths.{DepthsReturns}
@@ -40,13 +40,10 @@ write-returns sized p told = rw (← sized) (answered-returns _ _ _ _ (p .answer
 
 -- ---- a frame that is taken or refused: n is what is told, z stands in the places of its size
 
-size-after : (k : ℕ) (new old : Size) → sizeAfter (frameOr k new) old ≡ unless k new old
-size-after zero new old = refl
-size-after (suc n) new old = refl
-
 module _ {r : Taken} {n : ℕ} {z p : Size} (told : (n ≡ takenSaid r) × (z ≡ sizeAfter r p)) where
   taken-returns : (k : ℕ) (new : Size) → r ≡ frameOr k new → Returns k new p n z
-  taken-returns k new e = valued-returns takenSaid sizeAfter frameOr said-taken size-after k new p e told
+  taken-returns k new e =
+      valued-returns taken.Frame taken.Refused takenSaid sizeAfter (λ v. refl) (λ n. refl) (λ v old. refl) (λ n old. refl) k new p e told
 
   pub size-returns : {s : List ℕ} → Sizes s r → SizeReturns s p n z
   size-returns {s} q = taken-returns (refuseSize s) (size s) (q .answer)
