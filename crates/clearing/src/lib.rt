@@ -4,9 +4,7 @@ ghost use mathlib.Core.Path.{_≡_};
 ghost use Prim.Native.Nat.{_*_, _≤_};
 ghost use lib.ListN.{length};
 ghost use Rattle.rules.specs.Shape.{described, room};
-ghost use Rattle.rules.specs.Transmission.{refined};
-ghost use Rattle.rules.specs.Picture.{cleared};
-ghost use Rattle.rules.specs.Buffers.{pixels, bytes, values, entries, near, patch, reach};
+ghost use Rattle.rules.specs.Buffers.{pixels, mapOf, pictureOf, mapWith, frameWith, near, reach};
 ghost use Rattle.rules.specs.Box.{Covers};
 ghost use Rattle.rules.specs.Good.{GoodRect};
 ghost use Rattle.rules.specs.Setup.{handed};
@@ -43,10 +41,8 @@ fn refresh(
     requires { ⌜ Given (described z) (described b) top left k a (now frame) ⌝ }
     requires { ⌜ Target (described z) (described b) top left o (now map) (now picture) ⌝ }
     requires { ⌜ Covers (described z) (described b) top left (reach k) (near 0 o) × (room (described z) ≤ length (now work)) ⌝ }
-    ensures map { λ _. ⌜ now (map .exit) ≡ entries (described z) (patch (near 0 o)
-        (refined (described z) k a (pixels (described z) (now (frame .entry)))) (values (described z) (now (map .entry)))) ⌝ }
-    ensures picture { λ _. ⌜ now (picture .exit) ≡ bytes (described z) (patch (near 0 o)
-        (cleared (described z) k a (pixels (described z) (now (frame .entry)))) (pixels (described z) (now (picture .entry)))) ⌝ }
+    ensures map { λ _. ⌜ now (map .exit) ≡ mapWith (described z) (near 0 o) (mapOf (handed z k a) (pixels (described z) (now (frame .entry)))) (now (map .entry)) ⌝ }
+    ensures picture { λ _. ⌜ now (picture .exit) ≡ frameWith (described z) (near 0 o) (pictureOf (handed z k a) (pixels (described z) (now (frame .entry)))) (now (picture .entry)) ⌝ }
     ensures work { λ _. ⌜ now (work .exit) ≡ wiped (described z) (now (work .entry)) ⌝ }
 {
     prepare(work, frame, z, b, top, left, k, a);

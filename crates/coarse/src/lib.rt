@@ -55,7 +55,8 @@ fn ratio_row(work: &mut [i64], frame: &[u8], w: usize, h: usize, y: usize, first
 
 // The least ratios of the box's pixels.
 fn ratios(work: &mut [i64], frame: &[u8], z: Size, b: Size, top: usize, left: usize, a: Rgb)
-    requires { ⌜ (plane (b .w) (b .h) ≤ length (now work)) × Fits (described z) (described b) top left × (z .w * z .h ≤ 262144) × (length (now frame) ≡ 3 * (z .w * z .h)) × GoodLight a ⌝ }
+    requires { ⌜ (plane (b .w) (b .h) ≤ length (now work)) × Fits (described z) (described b) top left
+        × (z .w * z .h ≤ 262144) × (length (now frame) ≡ 3 * (z .w * z .h)) × GoodLight a ⌝ }
     ensures { λ _. ⌜ PlanesPut (now (work .entry)) (now (work .exit)) (b .w) (b .h) 0 1 (λ _ y x. pos (leastRatio a (shown (described z) top left (now (frame .entry)) y x))) (b .h) ⌝ }
 {
     let w = b.w;

@@ -67,7 +67,8 @@ fn fill_row(work: &mut [i64], frame: &[u8], w: usize, h: usize, first: usize, y:
 fn fill(work: &mut [i64], frame: &[u8], z: Size, b: Size, top: usize, left: usize)
     requires { ⌜ FillIn (now work) (b .w) (b .h) ⌝ }
     requires { ⌜ Fits (described z) (described b) top left × (z .w * z .h ≤ 262144) × (length (now frame) ≡ 3 * (z .w * z .h)) ⌝ }
-    ensures { λ _. ⌜ PlanesPut (now (work .entry)) (now (work .exit)) (b .w) (b .h) 1 3 (λ j y x. filled (now (work .entry)) (now (frame .entry)) (b .w) (b .h) ((top + y) * z .w + left + x) j y x) (b .h) ⌝ }
+    ensures { λ _. ⌜ PlanesPut (now (work .entry)) (now (work .exit)) (b .w) (b .h) 1 3
+        (λ j y x. filled (now (work .entry)) (now (frame .entry)) (b .w) (b .h) ((top + y) * z .w + left + x) j y x) (b .h) ⌝ }
 {
     let w = b.w;
     let h = b.h;

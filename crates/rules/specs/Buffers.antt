@@ -79,13 +79,20 @@ near q c y x = (leb (c .y) (y + q) && ltb y (c .y + c .h + q)) && (leb (c .x) (x
 unfoldable pub patch : {A : Type 0} → (ℕ → ℕ → Bool) → Plane A → Plane A → Plane A
 patch t new old y x = cond (t y x) (new y x) (old y x)
 
+-- a map, and a frame, with new values where the test holds
+abbrev pub mapWith : Shape → (ℕ → ℕ → Bool) → Plane ℕ → List ℕ → List ℕ
+mapWith z t new old = entries z (patch t new (values z old))
+
+abbrev pub frameWith : Shape → (ℕ → ℕ → Bool) → Plane Rgb → List ℕ → List ℕ
+frameWith z t new old = bytes z (patch t new (pixels z old))
+
 -- the rectangle's own pixels, at their places in the frame
 unfoldable pub placed : Rect → List ℕ → Plane Rgb
 placed c new y x = pixels (record { w = c .w; h = c .h }) new (y - c .y) (x - c .x)
 
 -- the frame with the new pixels
 abbrev pub pasted : Shape → Rect → List ℕ → List ℕ → List ℕ
-pasted z c new frame = bytes z (patch (near 0 c) (placed c new) (pixels z frame))
+pasted z c new frame = frameWith z (near 0 c) (placed c new) frame
 
 abbrev pub reach : Settings → ℕ
 reach k = k .s + 2 * k .r
@@ -96,8 +103,4 @@ replace p c new s =
     let frame = pasted z c new (s .frame) in
     let f = pixels z frame in
     let t = near (reach (p .settings)) c in
-    record {
-      frame = frame;
-      map = entries z (patch t (mapOf p f) (values z (s .map)));
-      picture = bytes z (patch t (pictureOf p f) (pixels z (s .picture)));
-    }
+    record { frame = frame; map = mapWith z t (mapOf p f) (s .map); picture = frameWith z t (pictureOf p f) (s .picture) }

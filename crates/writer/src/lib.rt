@@ -7,7 +7,7 @@ ghost use Rattle.rules.specs.Shape.{described};
 ghost use Rattle.rules.specs.Light.{at};
 ghost use Rattle.rules.specs.Transmission.{fit};
 ghost use Rattle.rules.specs.Picture.{recover3};
-ghost use Rattle.rules.specs.Buffers.{byteAt, pixels, bytes, values, entries, near, patch, pasted};
+ghost use Rattle.rules.specs.Buffers.{byteAt, mapWith, frameWith, near, pasted};
 ghost use Rattle.rules.specs.Good.{GoodRect};
 ghost use Rattle.planes.specs.Stage.{Given, Lined, shown};
 ghost use Rattle.writer.specs.Run.{Run, setPixel};
@@ -71,7 +71,8 @@ fn write_run(
     requires { ⌜ Lined (now work) (described b) (fit (described b) k a (shown (described z) top left (now frame))) ⌝ }
     requires { ⌜ Stretch (described b) top left y x n (now map) (now picture) ⌝ }
     ensures map { λ _. ⌜ Run (at (described z) (newMap (described z) (described b) top left k a (now (frame .entry)))) (y * z .w + x) n (now (map .entry)) (now (map .exit)) ⌝ }
-    ensures picture { λ _. ⌜ Run (byteAt (described z) (newPicture (described z) (described b) top left k a (now (frame .entry)))) (3 * (y * z .w + x)) (3 * n) (now (picture .entry)) (now (picture .exit)) ⌝ }
+    ensures picture { λ _. ⌜ Run (byteAt (described z) (newPicture (described z) (described b) top left k a (now (frame .entry))))
+        (3 * (y * z .w + x)) (3 * n) (now (picture .entry)) (now (picture .exit)) ⌝ }
 {
     let first = y * z.w + x;
     let mut i = 0;
@@ -101,8 +102,8 @@ pub fn write(
     requires { ⌜ Given (described z) (described b) top left k a (now frame) ⌝ }
     requires { ⌜ Lined (now work) (described b) (fit (described b) k a (shown (described z) top left (now frame))) ⌝ }
     requires { ⌜ Target (described z) (described b) top left o (now map) (now picture) ⌝ }
-    ensures map { λ _. ⌜ now (map .exit) ≡ entries (described z) (patch (near 0 o) (newMap (described z) (described b) top left k a (now (frame .entry))) (values (described z) (now (map .entry)))) ⌝ }
-    ensures picture { λ _. ⌜ now (picture .exit) ≡ bytes (described z) (patch (near 0 o) (newPicture (described z) (described b) top left k a (now (frame .entry))) (pixels (described z) (now (picture .entry)))) ⌝ }
+    ensures map { λ _. ⌜ now (map .exit) ≡ mapWith (described z) (near 0 o) (newMap (described z) (described b) top left k a (now (frame .entry))) (now (map .entry)) ⌝ }
+    ensures picture { λ _. ⌜ now (picture .exit) ≡ frameWith (described z) (near 0 o) (newPicture (described z) (described b) top left k a (now (frame .entry))) (now (picture .entry)) ⌝ }
 {
     let h = o.h;
     let mut j = 0;
