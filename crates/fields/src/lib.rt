@@ -1,7 +1,7 @@
 // Lines, fields and numbers of a text: read from lent bytes, written into them.
 ghost use mathlib.Core.Path.{_≡_};
 ghost use mathlib.Core.List.{_∷_};
-ghost use Prim.Native.Nat.{_≤_, _+_};
+ghost use Prim.Native.Nat.{_≤_, _+_, min};
 ghost use lib.ListN.{length};
 ghost use Rattle.fields.specs.Bytes.{classOf, lineOf};
 ghost use Rattle.fields.specs.Fields.{Ends, same as sameList};
@@ -75,6 +75,14 @@ pub fn end_of(s: &[u8], at: usize, sep: u8) -> usize
         i += 1;
     }
     i
+}
+
+// The place after `end`, or the length.
+pub fn after(s: &[u8], end: usize) -> usize
+    requires { ⌜ end ≤ length (now s) ⌝ }
+    ensures { λ r. ⌜ r ≡ min (end + 1) (length (now (s .entry))) ⌝ }
+{
+    if end < s.len() { end + 1 } else { end }
 }
 
 // The n-th part of s between bytes sep, counted from 0, and an empty part at the beginning where there is none.

@@ -1,8 +1,10 @@
 // The five calls on lent parts of the buffers, and what they answer, in words.
-use crate::digest;
 use crate::digest::say;
-use crate::fill::at_most;
-use crate::fill::past;
+use crate::digest::say_bytes;
+use crate::digest::say_entries;
+use crate::digest::say_kinds;
+use crate::line::at_most;
+use crate::line::past;
 use rules::Answer;
 use rules::Band;
 use rules::Figure;
@@ -91,6 +93,41 @@ fn say_band(band: Band) {
     }
 }
 
+fn light(args: &[u64; 24], frame: &[u8], work: &mut [i64]) {
+    say_found(haze::light(size(args), settings(args), frame, work));
+}
+
+fn clear(args: &[u64; 24], frame: &[u8], map: &mut [u16], picture: &mut [u8], work: &mut [i64]) {
+    let z = size(args);
+    let k = settings(args);
+    let a = light_given(args);
+    say_answer(haze::clear(z, k, a, frame, map, picture, work));
+}
+
+fn replace(
+    args: &[u64; 24],
+    new: &[u8],
+    frame: &mut [u8],
+    map: &mut [u16],
+    picture: &mut [u8],
+    work: &mut [i64],
+) {
+    let z = size(args);
+    let k = settings(args);
+    let a = light_given(args);
+    let c = rect(args);
+    say_answer(haze::replace(z, k, a, c, new, frame, map, picture, work));
+}
+
+fn haze(args: &[u64; 24], frame: &[u8], map: &[u16], picture: &mut [u8]) {
+    say_answer(haze::haze(size(args), light_given(args), frame, map, picture));
+}
+
+fn band(args: &[u64; 24], map: &[u16]) {
+    let c = rect(args);
+    say_band(haze::band(size(args), map, c.x, c.y));
+}
+
 // The call, on the lent parts.
 fn call(
     args: &[u64; 24],
@@ -100,17 +137,13 @@ fn call(
     picture: &mut [u8],
     work: &mut [i64],
 ) {
-    let z = size(args);
-    let k = settings(args);
-    let a = light_given(args);
-    let c = rect(args);
     let command = args[0];
     match command {
-        1 => say_found(haze::light(z, k, frame, work)),
-        3 => say_answer(haze::replace(z, k, a, c, new, frame, map, picture, work)),
-        4 => say_answer(haze::haze(z, a, frame, map, picture)),
-        5 => say_band(haze::band(z, map, c.x, c.y)),
-        _ => say_answer(haze::clear(z, k, a, frame, map, picture, work)),
+        1 => light(args, frame, work),
+        3 => replace(args, new, frame, map, picture, work),
+        4 => haze(args, frame, map, picture),
+        5 => band(args, map),
+        _ => clear(args, frame, map, picture, work),
     }
 }
 
@@ -124,7 +157,12 @@ fn report(
     work: &mut [i64],
 ) {
     call(args, frame, new, map, picture, work);
-    digest::say_all(frame, new, map, picture, work);
+    say_bytes(frame);
+    say_bytes(new);
+    say_entries(map);
+    say_bytes(picture);
+    say_kinds(work);
+    io::write_all(1, b"\n");
 }
 
 // Lends as much of each buffer as asked for: of map and picture from any entry on, of the others from the first.
@@ -136,13 +174,13 @@ pub(crate) fn lend(
     picture: &mut [u8],
     work: &mut [i64],
 ) {
-    let f = at_most(args[16], frame.len());
-    let n = at_most(args[17], new.len());
-    let m = at_most(args[21], map.len());
-    let m_end = past(m, args[18], map.len());
-    let p = at_most(args[22], picture.len());
-    let p_end = past(p, args[19], picture.len());
-    let q = at_most(args[20], work.len());
+    let f = at_most(args, 16, frame.len());
+    let n = at_most(args, 17, new.len());
+    let m = at_most(args, 21, map.len());
+    let m_end = past(args, 18, m, map.len());
+    let p = at_most(args, 22, picture.len());
+    let p_end = past(args, 19, p, picture.len());
+    let q = at_most(args, 20, work.len());
     report(
         args,
         &mut frame[0..f],

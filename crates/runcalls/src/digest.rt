@@ -6,17 +6,12 @@ pub(crate) fn say(n: u64) {
     io::print_decimal(1, n);
 }
 
-// The digest h with one entry more.
-fn with(h: u64, v: u64) -> u64 {
-    (h % 4294967291 * 1000003 + v % 4294967291 + 1) % 4294967291
-}
-
-// The same; the entry is said too where the buffer, of n entries, is short.
+// The digest h with one entry more, which is said too where the buffer, of n entries, is short.
 fn with_said(h: u64, n: usize, v: u64) -> u64 {
     if n <= 12 {
         say(v);
     }
-    with(h, v)
+    (h % 4294967291 * 1000003 + v % 4294967291 + 1) % 4294967291
 }
 
 // Tells apart 0, the four numbers that a work area is filled with, and any other.
@@ -44,78 +39,41 @@ fn wide16(v: u16) -> u64 {
     v as u64
 }
 
-fn byte_at(b: &[u8], i: usize) -> u64 {
-    if i < b.len() { wide8(b[i]) } else { 0 }
-}
-
-fn entry_at(m: &[u16], i: usize) -> u64 {
-    if i < m.len() { wide16(m[i]) } else { 0 }
-}
-
-fn kind_at(work: &[i64], i: usize) -> u64 {
-    if i < work.len() { kind(work[i]) } else { 0 }
-}
-
-// An entry of a buffer: 0 frame, 1 new pixels, 2 map, 3 picture, and any other number the work area.
-fn at(
-    which: u64,
-    i: usize,
-    frame: &[u8],
-    new: &[u8],
-    map: &[u16],
-    picture: &[u8],
-    work: &[i64],
-) -> u64 {
-    match which {
-        0 => byte_at(frame, i),
-        1 => byte_at(new, i),
-        2 => entry_at(map, i),
-        3 => byte_at(picture, i),
-        _ => kind_at(work, i),
-    }
-}
-
-// The digest of the first n entries of a buffer, each said too if they are few.
-fn say_each(
-    which: u64,
-    n: usize,
-    frame: &[u8],
-    new: &[u8],
-    map: &[u16],
-    picture: &[u8],
-    work: &[i64],
-) -> u64 {
-    let mut h = 0;
-    let mut i = 0;
-    while i < n {
-        h = with_said(h, n, at(which, i, frame, new, map, picture, work));
-        i += 1;
-    }
-    h
-}
-
-// The first n entries of a buffer.
-fn say_buffer(
-    which: u64,
-    n: usize,
-    frame: &[u8],
-    new: &[u8],
-    map: &[u16],
-    picture: &[u8],
-    work: &[i64],
-) {
+// What goes before a buffer's entries: how many there are.
+fn say_length(n: usize) {
     io::write_all(1, b";");
     say(n as u64);
-    let h = say_each(which, n, frame, new, map, picture, work);
+}
+
+pub(crate) fn say_bytes(b: &[u8]) {
+    say_length(b.len());
+    let mut h = 0;
+    let mut i = 0;
+    while i < b.len() {
+        h = with_said(h, b.len(), wide8(b[i]));
+        i += 1;
+    }
     say(h);
 }
 
-// All five buffers, and the line's end.
-pub(crate) fn say_all(frame: &[u8], new: &[u8], map: &[u16], picture: &[u8], work: &[i64]) {
-    say_buffer(0, frame.len(), frame, new, map, picture, work);
-    say_buffer(1, new.len(), frame, new, map, picture, work);
-    say_buffer(2, map.len(), frame, new, map, picture, work);
-    say_buffer(3, picture.len(), frame, new, map, picture, work);
-    say_buffer(4, work.len(), frame, new, map, picture, work);
-    io::write_all(1, b"\n");
+pub(crate) fn say_entries(m: &[u16]) {
+    say_length(m.len());
+    let mut h = 0;
+    let mut i = 0;
+    while i < m.len() {
+        h = with_said(h, m.len(), wide16(m[i]));
+        i += 1;
+    }
+    say(h);
+}
+
+pub(crate) fn say_kinds(work: &[i64]) {
+    say_length(work.len());
+    let mut h = 0;
+    let mut i = 0;
+    while i < work.len() {
+        h = with_said(h, work.len(), kind(work[i]));
+        i += 1;
+    }
+    say(h);
 }

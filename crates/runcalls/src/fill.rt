@@ -1,5 +1,7 @@
 // Buffers filled by a rule of few numbers, so that the input stays short.
-ghost use Prim.Native.Nat.{_≤_, _<_};
+use crate::line::at_most;
+use crate::line::past;
+ghost use Prim.Native.Nat.{_<_};
 
 // What the entries of a part hold. With i an entry's place in the part and d its draw, a number below 65,536 from a generator that starts at
 // the seed, the entry is low + d % noise + i / slow + i % fast, where a term with a divisor of 0 is left out; and where `spots` is not 0, about
@@ -61,45 +63,68 @@ fn unlike_zero(v: u64) -> i64 {
     if v % 4 == 2 { -1 } else { 1 }
 }
 
-fn store_byte(b: &mut [u8], at: usize, v: u64) {
-    if at < b.len() {
-        b[at] = (v % 256) as u8;
+fn byte(v: u64) -> u8 {
+    (v % 256) as u8
+}
+
+fn entry(v: u64) -> u16 {
+    (v % 65536) as u16
+}
+
+fn pattern_given(args: &[u64; 24]) -> Pattern {
+    Pattern {
+        seed: args[4],
+        low: args[5],
+        noise: args[6],
+        slow: args[7],
+        fast: args[8],
+        spots: args[9],
     }
 }
 
-fn store_entry(m: &mut [u16], at: usize, v: u64) {
-    if at < m.len() {
-        m[at] = (v % 65536) as u16;
+// Fills the part of a buffer of bytes that the line names, as far as the buffer reaches.
+fn bytes(b: &mut [u8], args: &[u64; 24]) {
+    let p = pattern_given(args);
+    let from = at_most(args, 2, b.len());
+    let end = past(args, 3, from, b.len());
+    let mut state = p.seed;
+    let mut i = from;
+    while i < end {
+        state = next(state);
+        b[i] = byte(value(p, (i - from) as u64, state));
+        i += 1;
     }
 }
 
-fn store_number(work: &mut [i64], at: usize, v: u64) {
-    if at < work.len() {
-        work[at] = unlike_zero(v);
+// The same, of a map.
+fn entries(m: &mut [u16], args: &[u64; 24]) {
+    let p = pattern_given(args);
+    let from = at_most(args, 2, m.len());
+    let end = past(args, 3, from, m.len());
+    let mut state = p.seed;
+    let mut i = from;
+    while i < end {
+        state = next(state);
+        m[i] = entry(value(p, (i - from) as u64, state));
+        i += 1;
     }
 }
 
-// Stores an entry of a buffer, where it has one: 0 frame, 1 new pixels, 2 map, 3 picture, and any other number the work area.
-fn store(
-    which: u64,
-    at: usize,
-    v: u64,
-    frame: &mut [u8],
-    new: &mut [u8],
-    map: &mut [u16],
-    picture: &mut [u8],
-    work: &mut [i64],
-) {
-    match which {
-        0 => store_byte(frame, at, v),
-        1 => store_byte(new, at, v),
-        2 => store_entry(map, at, v),
-        3 => store_byte(picture, at, v),
-        _ => store_number(work, at, v),
+// The same, of a work area.
+fn numbers(work: &mut [i64], args: &[u64; 24]) {
+    let p = pattern_given(args);
+    let from = at_most(args, 2, work.len());
+    let end = past(args, 3, from, work.len());
+    let mut state = p.seed;
+    let mut i = from;
+    while i < end {
+        state = next(state);
+        work[i] = unlike_zero(value(p, (i - from) as u64, state));
+        i += 1;
     }
 }
 
-// Fills a part of a buffer.
+// Fills a part of a buffer: 0 frame, 1 new pixels, 2 map, 3 picture, and any other number the work area.
 pub(crate) fn part(
     args: &[u64; 24],
     frame: &mut [u8],
@@ -108,51 +133,12 @@ pub(crate) fn part(
     picture: &mut [u8],
     work: &mut [i64],
 ) {
-    let p = Pattern {
-        seed: args[4],
-        low: args[5],
-        noise: args[6],
-        slow: args[7],
-        fast: args[8],
-        spots: args[9],
-    };
     let which = args[1];
-    let first = args[2] % 1048576;
-    let n = args[3] % 1048576;
-    let mut state = p.seed;
-    let mut i = 0;
-    while i < n {
-        state = next(state);
-        let at = (first + i) as usize;
-        store(
-            which,
-            at,
-            value(p, i, state),
-            frame,
-            new,
-            map,
-            picture,
-            work,
-        );
-        i += 1;
-    }
-}
-
-// The number asked for, at most `most`.
-pub(crate) fn at_most(n: u64, most: usize) -> usize
-    ensures { λ r. ⌜ r ≤ most ⌝ }
-{
-    if n < most as u64 { n as usize } else { most }
-}
-
-// The end of n entries from `from` on, at most `most`.
-pub(crate) fn past(from: usize, n: u64, most: usize) -> usize
-    requires { ⌜ from ≤ most ⌝ }
-    ensures { λ r. ⌜ (from ≤ r) × (r ≤ most) ⌝ }
-{
-    if n < (most - from) as u64 {
-        from + n as usize
-    } else {
-        most
+    match which {
+        0 => bytes(frame, args),
+        1 => bytes(new, args),
+        2 => entries(map, args),
+        3 => bytes(picture, args),
+        _ => numbers(work, args),
     }
 }

@@ -1,22 +1,5 @@
-// Lines, and the decimal numbers in them.
+// The decimal numbers of a line.
 ghost use Prim.Native.Nat.{_≤_, _<_};
-ghost use lib.ListN.{length};
-
-// Where the line that starts at `at` ends: past its line end, or at the end of the text.
-pub(crate) fn end(text: &[u8], at: usize) -> usize
-    requires { ⌜ at < length (now text) ⌝ }
-    ensures { λ r. ⌜ (at < r) × (r ≤ length (now (text .entry))) ⌝ }
-{
-    let mut i = at;
-    while i < text.len() {
-        let b = text[i];
-        i += 1;
-        if b == b'\n' {
-            return i;
-        }
-    }
-    i
-}
 
 fn is_digit(b: u8) -> bool {
     b'0' <= b && b <= b'9'
@@ -58,12 +41,31 @@ fn step(args: &mut [u64; 24], t: Reading, b: u8) -> Reading {
     }
 }
 
-// The numbers of a line, in order.
-pub(crate) fn numbers(text: &[u8], args: &mut [u64; 24]) {
+// The numbers of a line, in order, and 0 where there are no more.
+pub(crate) fn numbers(text: &[u8]) -> [u64; 24] {
+    let mut args = [0u64; 24];
     let mut t = Reading { value: 0, count: 0 };
     let mut i = 0;
     while i < text.len() {
-        t = step(args, t, text[i]);
+        t = step(&mut args, t, text[i]);
         i += 1;
     }
+    args
+}
+
+// The k-th number, at most `most`.
+pub(crate) fn at_most(args: &[u64; 24], k: usize, most: usize) -> usize
+    requires { ⌜ k < 24 ⌝ }
+    ensures { λ r. ⌜ r ≤ most ⌝ }
+{
+    let n = args[k];
+    if n < most as u64 { n as usize } else { most }
+}
+
+// The end of as many entries from `from` on as the k-th number says, at most `most`.
+pub(crate) fn past(args: &[u64; 24], k: usize, from: usize, most: usize) -> usize
+    requires { ⌜ (k < 24) × (from ≤ most) ⌝ }
+    ensures { λ r. ⌜ (from ≤ r) × (r ≤ most) ⌝ }
+{
+    from + at_most(args, k, most - from)
 }

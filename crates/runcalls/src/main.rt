@@ -6,6 +6,8 @@
 //   how many entries of frame, new pixels, map, picture and work area are lent, and which entry of map and picture is the first.
 // Haze takes the frame as the clean one and hazes the picture. A fill's other numbers are the buffer's, the first entry and how many, and
 // those of `fill::Pattern`.
+ghost use Rattle.io.specs.Counts.{Counts};
+
 mod calls;
 mod digest;
 mod fill;
@@ -27,20 +29,6 @@ fn act(
     }
 }
 
-// Does what one line says, whose numbers are still text.
-fn obey(
-    text: &[u8],
-    frame: &mut [u8],
-    new: &mut [u8],
-    map: &mut [u16],
-    picture: &mut [u8],
-    work: &mut [i64],
-) {
-    let mut args = [0u64; 24];
-    line::numbers(text, &mut args);
-    act(&args, frame, new, map, picture, work);
-}
-
 // Does what each line of the text says, one after the other.
 fn run(
     text: &[u8],
@@ -52,10 +40,18 @@ fn run(
 ) {
     let mut at = 0;
     while at < text.len() {
-        let end = line::end(text, at);
-        obey(&text[at..end], frame, new, map, picture, work);
-        at = end;
+        let end = fields::end_of(text, at, b'\n');
+        let next = fields::after(text, end);
+        let args = line::numbers(&text[at..next]);
+        act(&args, frame, new, map, picture, work);
+        at = next;
     }
+}
+
+fn read(text: &mut [u8; 524288]) -> usize
+    ensures { λ r. ⌜ Counts r (now (text .exit)) ⌝ }
+{
+    io::read_full(0, text)
 }
 
 // The buffers hold a frame of 130 by 130 pixels with its work area, two maps and two pictures, each with one entry more.
@@ -66,7 +62,7 @@ fn main() {
     let mut map = [0u16; 33802];
     let mut picture = [0u8; 101402];
     let mut work = [0i64; 137289];
-    let n = io::read_full(0, &mut text);
+    let n = read(&mut text);
     run(
         &text[..n],
         &mut frame,

@@ -1,7 +1,7 @@
 -- `runsettings::run` is safe and ends. The loop's invariant: `at` is at most the length. The measure is what is left of the length. Assumes nothing.
-use mathlib.Core.Logic.{⊎-elim}
-use Prim.Native.Nat.{_≤_, _-_}
-use native.Mathlib.Nat.{eq-or-lt-of-le}
+use mathlib.Core.Path.{_≡_}
+use Prim.Native.Nat.{ℕ, _+_, _-_, _≤_, _<_, min}
+use native.Mathlib.Nat.{le-refl, le-of-lt}
 use native.Mathlib.Omega.{arith}
 use lib.ListN.{length}
 use borrow.Author.Needs.{needs}
@@ -14,72 +14,22 @@ Inv-loop input at₀ at = at ≤ length input
 abbrev μ-loop : tie.MeasureT-loop
 μ-loop input at₀ at = length input - at
 
-loop-holds : tie.Need-loop-holds Inv-loop μ-loop
-loop-holds c = search needs
+-- r, the place after e, lies past a, where e does not lie before b, nor b before a
+past : {a b e n r : ℕ} → a < n → a ≤ b → b ≤ e → r ≡ min (e + 1) n → a < r
+past p q l h = omega arith
 
-end-of-requires : tie.Need-end-of-requires Inv-loop μ-loop
-end-of-requires c κs = search needs
-
-after-requires : tie.Need-after-requires Inv-loop μ-loop
-after-requires c κs = search needs
-
-end-of-requires-2 : tie.Need-end-of-requires-2 Inv-loop μ-loop
-end-of-requires-2 c κs = search needs
-
-after-requires-2 : tie.Need-after-requires-2 Inv-loop μ-loop
-after-requires-2 c κs = search needs
-
-end-of-requires-3 : tie.Need-end-of-requires-3 Inv-loop μ-loop
-end-of-requires-3 c κs = search needs
-
-sub-answer : tie.Need-sub-answer Inv-loop μ-loop
-sub-answer c = search needs
-
-part-answer-start : tie.Need-part-answer-start Inv-loop μ-loop
-part-answer-start c = search needs
-
-part-answer-end : tie.Need-part-answer-end Inv-loop μ-loop
-part-answer-end c = search needs
-
-sub-answer-2 : tie.Need-sub-answer-2 Inv-loop μ-loop
-sub-answer-2 c = search needs
-
-part-answer-start-2 : tie.Need-part-answer-start-2 Inv-loop μ-loop
-part-answer-start-2 c = search needs
-
-part-answer-end-2 : tie.Need-part-answer-end-2 Inv-loop μ-loop
-part-answer-end-2 c = search needs
-
-sub-answer-3 : tie.Need-sub-answer-3 Inv-loop μ-loop
-sub-answer-3 c = search needs
-
-part-answer-start-3 : tie.Need-part-answer-start-3 Inv-loop μ-loop
-part-answer-start-3 c = search needs
-
-part-answer-end-3 : tie.Need-part-answer-end-3 Inv-loop μ-loop
-part-answer-end-3 c = search needs
-
-answer-requires : tie.Need-answer-requires Inv-loop μ-loop
-answer-requires c κs = search needs
-
-after-requires-3 : tie.Need-after-requires-3 Inv-loop μ-loop
-after-requires-3 c κs = search needs
+falls : {a n r : ℕ} → a < n → a < r → n - r < n - a
+falls p q = omega arith
 
 loop-less : tie.Need-loop-less Inv-loop μ-loop
 loop-less c =
     let third = c .before .before .before .before .before in
     let second = third .before .before in
     let first = second .before .before in
-    let on = second .before .after in
-    let far : on .result ≤ c .after3 .result =
-    omega (arith, second .end-of2 .ensures .from, third .before .after2 .ensures .0, third .end-of3 .ensures .from, c .after3 .ensures .0) in
-    ⊎-elim (λ e. omega (arith, on .ensures .0)) (λ l. omega (arith, first .end-of .ensures .from, on .ensures .2 l)) (eq-or-lt-of-le (first .end-of .ensures .within))
-
-loop-again : tie.Need-loop-again Inv-loop μ-loop
-loop-again c = search needs
-
-returns : tie.Need-returns Inv-loop μ-loop
-returns c = search needs
+    let on = first .before .loop-test .taken in
+    let house = le-of-lt (past on (le-refl _) (first .end-of .ensures .from) (second .before .after .ensures)) in
+    let name = le-of-lt (past on house (second .end-of2 .ensures .from) (third .before .after2 .ensures)) in
+    falls on (past on name (third .end-of3 .ensures .from) (c .after3 .ensures))
 
 pub run-spec : {M : Type 1} → statement M
 run-spec =
@@ -87,23 +37,23 @@ run-spec =
     (tie.spec
     Inv-loop
     μ-loop
-    loop-holds
-    end-of-requires
-    after-requires
-    end-of-requires-2
-    after-requires-2
-    end-of-requires-3
-    sub-answer
-    part-answer-start
-    part-answer-end
-    sub-answer-2
-    part-answer-start-2
-    part-answer-end-2
-    sub-answer-3
-    part-answer-start-3
-    part-answer-end-3
-    answer-requires
-    after-requires-3
+    (λ c. search needs)
+    (λ c κs. search needs)
+    (λ c κs. search needs)
+    (λ c κs. search needs)
+    (λ c κs. search needs)
+    (λ c κs. search needs)
+    (λ c. search needs)
+    (λ c. search needs)
+    (λ c. search needs)
+    (λ c. search needs)
+    (λ c. search needs)
+    (λ c. search needs)
+    (λ c. search needs)
+    (λ c. search needs)
+    (λ c. search needs)
+    (λ c κs. search needs)
+    (λ c κs. search needs)
     loop-less
-    loop-again
-    returns)
+    (λ c. search needs)
+    (λ c. search needs))

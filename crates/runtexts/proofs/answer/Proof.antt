@@ -1,22 +1,18 @@
--- `runtexts::answer` is safe: the memory for the answer is as long after it as before. Assumes nothing.
-use mathlib.Core.Path.{sym, ap, _∙_}
-use lib.ListN.{length}
-use lib.Seq.{length-sets}
+-- `runtexts::answer` is safe: the answer lies within its memory. Assumes nothing.
+use mathlib.Core.Path.{sym}
+use lib.Seq.{length-take-le}
+use Rattle.text.proofs.Writing.{inside}
 use borrow.Author.Needs.{needs}
 use Rattle.runtexts.proofs.answer.Statement.{statement}
 use Rattle.runtexts.proofs.answer.Tie as tie
 
-answer-requires : tie.Need-answer-requires
-answer-requires c κs = search needs
+within : tie.Need-array-share-prefix-out
+within c = inside (c .answer .ensures)
 
-slice-aggregate-say : tie.Need-slice-aggregate-say
-slice-aggregate-say c = sym (ap length (c .before .answer .ensures .is) ∙ simp length-sets)
-
-say-requires : tie.Need-say-requires
-say-requires c κs = search needs
-
-returns : tie.Need-returns
-returns c = search needs
+as-long : tie.Need-slice-aggregate-write-all
+as-long c = sym (length-take-le _ _ (inside (c .before .answer .ensures)))
 
 pub answer-spec : {M : Type 1} → statement M
-answer-spec = tie.close (tie.spec answer-requires slice-aggregate-say say-requires returns)
+answer-spec =
+    tie.close
+    (tie.spec (λ c κs. search needs) within as-long (λ c κs. search needs) (λ c. search needs) (λ c κs. search needs) (λ c. search needs))
