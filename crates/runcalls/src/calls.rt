@@ -183,10 +183,10 @@ pub(crate) fn lend(
     let q = at_most(args, 20, work.len());
     report(
         args,
-        &mut frame[0..f],
-        &new[0..n],
+        &mut frame[..f],
+        &new[..n],
         &mut map[m..m_end],
         &mut picture[p..p_end],
-        &mut work[0..q],
+        &mut work[..q],
     );
 }

@@ -83,7 +83,7 @@ fn pattern_given(args: &[u64; 24]) -> Pattern {
 }
 
 // Fills the part of a buffer of bytes that the line names, as far as the buffer reaches.
-fn bytes(b: &mut [u8], args: &[u64; 24]) {
+pub(crate) fn bytes(b: &mut [u8], args: &[u64; 24]) {
     let p = pattern_given(args);
     let from = at_most(args, 2, b.len());
     let end = past(args, 3, from, b.len());
@@ -97,7 +97,7 @@ fn bytes(b: &mut [u8], args: &[u64; 24]) {
 }
 
 // The same, of a map.
-fn entries(m: &mut [u16], args: &[u64; 24]) {
+pub(crate) fn entries(m: &mut [u16], args: &[u64; 24]) {
     let p = pattern_given(args);
     let from = at_most(args, 2, m.len());
     let end = past(args, 3, from, m.len());
@@ -111,7 +111,7 @@ fn entries(m: &mut [u16], args: &[u64; 24]) {
 }
 
 // The same, of a work area.
-fn numbers(work: &mut [i64], args: &[u64; 24]) {
+pub(crate) fn numbers(work: &mut [i64], args: &[u64; 24]) {
     let p = pattern_given(args);
     let from = at_most(args, 2, work.len());
     let end = past(args, 3, from, work.len());
@@ -121,24 +121,5 @@ fn numbers(work: &mut [i64], args: &[u64; 24]) {
         state = next(state);
         work[i] = unlike_zero(value(p, (i - from) as u64, state));
         i += 1;
-    }
-}
-
-// Fills a part of a buffer: 0 frame, 1 new pixels, 2 map, 3 picture, and any other number the work area.
-pub(crate) fn part(
-    args: &[u64; 24],
-    frame: &mut [u8],
-    new: &mut [u8],
-    map: &mut [u16],
-    picture: &mut [u8],
-    work: &mut [i64],
-) {
-    let which = args[1];
-    match which {
-        0 => bytes(frame, args),
-        1 => bytes(new, args),
-        2 => entries(map, args),
-        3 => bytes(picture, args),
-        _ => numbers(work, args),
     }
 }

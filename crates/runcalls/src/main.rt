@@ -13,6 +13,14 @@ mod digest;
 mod fill;
 mod line;
 
+// The buffer that a line fills, a number below 5, or 5 where it makes a call.
+fn filled(args: &[u64; 24]) -> u64 {
+    if args[0] != 6 {
+        return 5;
+    }
+    if args[1] < 4 { args[1] } else { 4 }
+}
+
 // Does what one line says.
 fn act(
     args: &[u64; 24],
@@ -22,10 +30,13 @@ fn act(
     picture: &mut [u8],
     work: &mut [i64],
 ) {
-    if args[0] == 6 {
-        fill::part(args, frame, new, map, picture, work)
-    } else {
-        calls::lend(args, frame, new, map, picture, work)
+    match filled(args) {
+        0 => fill::bytes(frame, args),
+        1 => fill::bytes(new, args),
+        2 => fill::entries(map, args),
+        3 => fill::bytes(picture, args),
+        4 => fill::numbers(work, args),
+        _ => calls::lend(args, frame, new, map, picture, work),
     }
 }
 
