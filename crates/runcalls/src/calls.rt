@@ -1,18 +1,16 @@
-// The five calls on lent parts of the buffers, and what they answer, in words.
-use crate::digest::say;
-use crate::digest::say_bytes;
-use crate::digest::say_entries;
-use crate::digest::say_kinds;
+// The five calls on lent parts of the buffers.
 use crate::line::at_most;
 use crate::line::past;
-use rules::Answer;
-use rules::Band;
-use rules::Figure;
-use rules::Found;
 use rules::Rect;
 use rules::Rgb;
 use rules::Settings;
 use rules::Size;
+use telling::say_answer;
+use telling::say_band;
+use telling::say_bytes;
+use telling::say_entries;
+use telling::say_found;
+use telling::say_kinds;
 
 fn size(args: &[u64; 24]) -> Size {
     Size {
@@ -46,50 +44,6 @@ fn rect(args: &[u64; 24]) -> Rect {
         y: args[13] as usize,
         w: args[14] as usize,
         h: args[15] as usize,
-    }
-}
-
-fn say_refused(number: u8) {
-    io::write_all(1, b"refused");
-    say(number as u64);
-}
-
-fn say_answer(answer: Answer) {
-    match answer {
-        Answer::Done => {
-            io::write_all(1, b"done");
-        }
-        Answer::Refused(number) => say_refused(number),
-    }
-}
-
-fn say_found(found: Found) {
-    match found {
-        Found::Light(a) => {
-            io::write_all(1, b"light");
-            say(a.r as u64);
-            say(a.g as u64);
-            say(a.b as u64);
-        }
-        Found::Refused(number) => say_refused(number),
-    }
-}
-
-// A double by its bits; 0 stands for what is no number.
-fn bits(x: f64) -> u64 {
-    if x == x { f64::to_bits(x) } else { 0 }
-}
-
-fn say_figure(figure: Figure) {
-    io::write_all(1, b"figure");
-    say(bits(figure.mean));
-    say(bits(figure.least));
-}
-
-fn say_band(band: Band) {
-    match band {
-        Band::Figure(figure) => say_figure(figure),
-        Band::Refused(number) => say_refused(number),
     }
 }
 

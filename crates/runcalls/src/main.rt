@@ -9,9 +9,17 @@
 ghost use Rattle.io.specs.Counts.{Counts};
 
 mod calls;
-mod digest;
 mod fill;
 mod line;
+
+// The buffers hold a frame of 130 by 130 pixels with its work area, two maps and two pictures, each with one entry more.
+const PIXELS: usize = 50701;
+
+const MAPS: usize = 33802;
+
+const PICTURES: usize = 101402;
+
+const WORK: usize = 137289;
 
 // The buffer that a line fills, a number below 5, or 5 where it makes a call.
 fn filled(args: &[u64; 24]) -> u64 {
@@ -43,11 +51,11 @@ fn act(
 // Does what each line of the text says, one after the other.
 fn run(
     text: &[u8],
-    frame: &mut [u8],
-    new: &mut [u8],
-    map: &mut [u16],
-    picture: &mut [u8],
-    work: &mut [i64],
+    frame: &mut [u8; PIXELS],
+    new: &mut [u8; PIXELS],
+    map: &mut [u16; MAPS],
+    picture: &mut [u8; PICTURES],
+    work: &mut [i64; WORK],
 ) {
     let mut at = 0;
     while at < text.len() {
@@ -65,14 +73,13 @@ fn read(text: &mut [u8; 524288]) -> usize
     io::read_full(0, text)
 }
 
-// The buffers hold a frame of 130 by 130 pixels with its work area, two maps and two pictures, each with one entry more.
 fn main() {
     let mut text = [0u8; 524288];
-    let mut frame = [0u8; 50701];
-    let mut new = [0u8; 50701];
-    let mut map = [0u16; 33802];
-    let mut picture = [0u8; 101402];
-    let mut work = [0i64; 137289];
+    let mut frame = [0u8; PIXELS];
+    let mut new = [0u8; PIXELS];
+    let mut map = [0u16; MAPS];
+    let mut picture = [0u8; PICTURES];
+    let mut work = [0i64; WORK];
     let n = read(&mut text);
     run(
         &text[..n],

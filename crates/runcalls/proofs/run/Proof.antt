@@ -1,19 +1,12 @@
--- `runcalls::run` is safe and ends. The loop's invariant: `at` is at most the length, and every buffer is as long as before. The measure is what is left of the length. Assumes nothing.
+-- `runcalls::run` is safe and ends. The loop's invariant: `at` is at most the length. The measure is what is left of the length. Assumes nothing.
 use Prim.Native.Nat.{_≤_, _-_}
-use mathlib.Core.Path.{_≡_}
 use lib.ListN.{length}
 use borrow.Author.Needs.{needs}
 use Rattle.runcalls.proofs.run.Statement.{statement}
 use Rattle.runcalls.proofs.run.Tie as tie
 
 abbrev Inv-loop : tie.InvT-loop
-Inv-loop text frame₀ new₀ map₀ picture₀ work₀ at₀ frame new map picture work at =
-    (at ≤ length text)
-    × (length frame ≡ length frame₀)
-    × (length new ≡ length new₀)
-    × (length map ≡ length map₀)
-    × (length picture ≡ length picture₀)
-    × (length work ≡ length work₀)
+Inv-loop text frame₀ new₀ map₀ picture₀ work₀ at₀ frame new map picture work at = at ≤ length text
 
 abbrev μ-loop : tie.MeasureT-loop
 μ-loop text frame₀ new₀ map₀ picture₀ work₀ at₀ frame new map picture work at = length text - at
@@ -30,13 +23,8 @@ run-spec =
     (λ c. search needs)
     (λ c. search needs)
     (λ c. search needs)
-    (λ c κs. search needs)
-    (λ c κs. search needs)
+    (λ c κs. tt)
+    (λ c κs. tt)
     (λ c. search needs)
     (λ c. search needs)
-    (λ c. search needs)
-    (λ c. search needs)
-    (λ c. search needs)
-    (λ c. search needs)
-    (λ c. search needs)
-    (λ c. search needs))
+    (λ c. tt))

@@ -1,9 +1,9 @@
--- `runcalls::digest::say_entries` is safe and ends. The loop's invariant: `i` is at most the length. The measure is what is left of the length. Assumes nothing.
+-- `telling::say_entries` is safe and ends. The loop's invariant: `i` is at most the length. The measure is what is left of the length. Assumes nothing.
 use Prim.Native.Nat.{_≤_, _-_}
 use lib.ListN.{length}
 use borrow.Author.Needs.{needs}
-use Rattle.runcalls.proofs.digest.say_entries.Statement.{statement}
-use Rattle.runcalls.proofs.digest.say_entries.Tie as tie
+use Rattle.telling.proofs.say_entries.Statement.{statement}
+use Rattle.telling.proofs.say_entries.Tie as tie
 
 abbrev Inv-loop : tie.InvT-loop
 Inv-loop m h₀ i₀ h i = i ≤ length m

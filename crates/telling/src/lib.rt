@@ -1,7 +1,11 @@
-// What a buffer holds: its length, of a short buffer the entries, and a digest of all entries in order.
-// An entry of the work area counts as its `kind`.
+// Tells on standard output what a call answered, in words, and what a buffer holds: its length, of a short buffer the entries, and a digest of all
+// entries in order. An entry of the work area counts as its `kind`.
+use rules::Answer;
+use rules::Band;
+use rules::Figure;
+use rules::Found;
 
-pub(crate) fn say(n: u64) {
+fn say(n: u64) {
     io::write_all(1, b" ");
     io::print_decimal(1, n);
 }
@@ -45,7 +49,7 @@ fn say_length(n: usize) {
     say(n as u64);
 }
 
-pub(crate) fn say_bytes(b: &[u8]) {
+pub fn say_bytes(b: &[u8]) {
     say_length(b.len());
     let mut h = 0;
     let mut i = 0;
@@ -56,7 +60,7 @@ pub(crate) fn say_bytes(b: &[u8]) {
     say(h);
 }
 
-pub(crate) fn say_entries(m: &[u16]) {
+pub fn say_entries(m: &[u16]) {
     say_length(m.len());
     let mut h = 0;
     let mut i = 0;
@@ -67,7 +71,7 @@ pub(crate) fn say_entries(m: &[u16]) {
     say(h);
 }
 
-pub(crate) fn say_kinds(work: &[i64]) {
+pub fn say_kinds(work: &[i64]) {
     say_length(work.len());
     let mut h = 0;
     let mut i = 0;
@@ -76,4 +80,48 @@ pub(crate) fn say_kinds(work: &[i64]) {
         i += 1;
     }
     say(h);
+}
+
+fn say_refused(number: u8) {
+    io::write_all(1, b"refused");
+    say(number as u64);
+}
+
+pub fn say_answer(answer: Answer) {
+    match answer {
+        Answer::Done => {
+            io::write_all(1, b"done");
+        }
+        Answer::Refused(number) => say_refused(number),
+    }
+}
+
+pub fn say_found(found: Found) {
+    match found {
+        Found::Light(a) => {
+            io::write_all(1, b"light");
+            say(a.r as u64);
+            say(a.g as u64);
+            say(a.b as u64);
+        }
+        Found::Refused(number) => say_refused(number),
+    }
+}
+
+// A double by its bits; 0 stands for what is no number.
+fn bits(x: f64) -> u64 {
+    if x == x { f64::to_bits(x) } else { 0 }
+}
+
+fn say_figure(figure: Figure) {
+    io::write_all(1, b"figure");
+    say(bits(figure.mean));
+    say(bits(figure.least));
+}
+
+pub fn say_band(band: Band) {
+    match band {
+        Band::Figure(figure) => say_figure(figure),
+        Band::Refused(number) => say_refused(number),
+    }
 }

@@ -1,11 +1,11 @@
--- `runcalls::calls::bits` is safe: what equals itself is a number. Assumes nothing.
+-- `telling::bits` is safe: what equals itself is a number. Assumes nothing.
 use mathlib.Core.Path.{_≡_, sym, subst}
 use mathlib.Core.Bool.{true, not}
 use lib.Dec.{T}
 use lib.Ieee.{Float, nan, inf, fin, isNan, eq}
 use borrow.Author.Needs.{needs}
-use Rattle.runcalls.proofs.calls.bits.Statement.{statement}
-use Rattle.runcalls.proofs.calls.bits.Tie as tie
+use Rattle.telling.proofs.bits.Statement.{statement}
+use Rattle.telling.proofs.bits.Tie as tie
 
 number : (x : Float) → eq x x ≡ true → T (not (isNan x))
 unfolding eq isNan
