@@ -8,24 +8,27 @@
 
 int main(void)
 {
-    uint8_t frame[3 * W * H] = {200, 200, 200, 100, 150, 180};
+    struct haze_settings settings = HAZE_SETTINGS_DEFAULT;
+    struct haze_lights lights = {{0, 0, 0}};
+    const struct haze_rect second = {1, 0, 1, 1};
     const uint8_t new_pixel[3] = {190, 180, 170};
-    uint8_t picture[3 * W * H] = {0}, red = 0, green = 0, blue = 0, answer;
+    uint8_t frame[3 * W * H] = {200, 200, 200, 100, 150, 180}, picture[3 * W * H] = {0}, answer;
     uint16_t map[W * H] = {0}, depths[W * H] = {0};
     int64_t work[HAZE_WORK(W, H)] = {0};
     double mean = 0, least = 0;
     uint8_t file[sizeof "P6\n2 1\n255\n" - 1 + sizeof picture];
     uint64_t w = 0, h = 0;
 
-    answer = haze_light(W, H, 0, 1, 9500, 59, 1000, 1, frame, sizeof frame, work, HAZE_WORK(W, H), &red, &green, &blue);
-    printf("light %d: %d %d %d\n", answer, red, green, blue);
+    settings.s = 0;
+    settings.r = 1;
+    answer = haze_light(W, H, &settings, frame, sizeof frame, work, HAZE_WORK(W, H), &lights);
+    printf("light %d: %d %d %d\n", answer, lights.light.red, lights.light.green, lights.light.blue);
 
-    answer = haze_clear(W, H, 0, 1, 9500, 59, 1000, 1, red, green, blue, frame, sizeof frame, map, W * H, picture, sizeof picture, work,
-                        HAZE_WORK(W, H));
+    answer = haze_clear(W, H, &settings, &lights, frame, sizeof frame, map, W * H, picture, sizeof picture, work, HAZE_WORK(W, H));
     printf("clear %d: %d %d, second pixel %d %d %d\n", answer, map[0], map[1], picture[3], picture[4], picture[5]);
 
-    answer = haze_replace(W, H, 0, 1, 9500, 59, 1000, 1, red, green, blue, 1, 0, 1, 1, new_pixel, sizeof new_pixel, frame, sizeof frame, map, W * H,
-                          picture, sizeof picture, work, HAZE_WORK(W, H));
+    answer = haze_replace(W, H, &settings, &lights, &second, new_pixel, sizeof new_pixel, frame, sizeof frame, map, W * H, picture, sizeof picture, work,
+                          HAZE_WORK(W, H));
     printf("replace %d: %d %d, second pixel %d %d %d\n", answer, map[0], map[1], picture[3], picture[4], picture[5]);
 
     answer = haze_band(W, H, map, W * H, 0, 1, &mean, &least);
@@ -44,13 +47,13 @@ int main(void)
     printf("read %d: second pixel %d %d %d\n", answer, picture[3], picture[4], picture[5]);
 
     answer = haze_ppm_read(file, sizeof file - 1, picture, sizeof picture, &w, &h);
-    printf("a file that is short is refused %d\n", answer);
+    printf("a file that is short is refused %d: %s\n", answer, haze_words(answer));
 
-    answer = haze_add(W, H, red, green, blue, picture, sizeof picture, map, W * H, frame, sizeof frame);
+    answer = haze_add(W, H, &lights.light, picture, sizeof picture, map, W * H, frame, sizeof frame);
     printf("add %d: %d %d %d\n", answer, frame[3], frame[4], frame[5]);
 
-    answer = haze_clear(W, H, 31, 1, 9500, 59, 1000, 1, red, green, blue, frame, sizeof frame, map, W * H, picture, sizeof picture, work,
-                        HAZE_WORK(W, H));
-    printf("clear with s 31 is refused %d\n", answer);
+    settings.s = 31;
+    answer = haze_clear(W, H, &settings, &lights, frame, sizeof frame, map, W * H, picture, sizeof picture, work, HAZE_WORK(W, H));
+    printf("clear with s 31 is refused %d: %s\n", answer, haze_words(answer));
     return answer != HAZE_BAD_SETTING;
 }

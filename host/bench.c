@@ -12,41 +12,40 @@
 #define WORK_MOST (8 * (MOST + 1024 + 256 + 1))
 #define SIDE 32     /* of the rectangle that is replaced */
 
-static uint64_t w, h, column, row;
-static settings k;
-static uint8_t frame[3 * MOST], picture[3 * MOST], hazy[3 * MOST], pixels[3 * SIDE * SIDE], a[3];
-static uint8_t peer_frame[3 * MOST], peer_picture[3 * MOST], peer_hazy[3 * MOST], peer_a[3];
+static uint64_t w, h;
+static struct haze_settings k;
+static struct haze_rect rect = {0, 0, SIDE, SIDE};
+static struct haze_lights a, peer_a;
+static uint8_t frame[3 * MOST], picture[3 * MOST], hazy[3 * MOST], pixels[3 * SIDE * SIDE];
+static uint8_t peer_frame[3 * MOST], peer_picture[3 * MOST], peer_hazy[3 * MOST];
 static uint16_t map[MOST], peer_map[MOST], depths[MOST], peer_depths_of[MOST];
 static int64_t work[WORK_MOST];
 static _Alignas(64) uint8_t scratch[16 * MOST];
 static double mean, least, peer_mean, peer_least;
-static peer_settings pk;
 
 /* ---- the calls, each of the library and of the peer */
 
-#define SETTINGS k.s, k.r, k.omega, k.e, k.t0, k.share
 #define W32 (uint32_t)w, (uint32_t)h
 #define FRAME 3 * w * h
 #define WORK work, HAZE_WORK(w, h)
 
-static int lib_light(void) { return haze_light(w, h, SETTINGS, frame, FRAME, WORK, &a[0], &a[1], &a[2]); }
-static int own_light(void) { return peer_light(W32, &pk, peer_frame, FRAME, peer_a, scratch); }
+static int lib_light(void) { return haze_light(w, h, &k, frame, FRAME, WORK, &a); }
+static int own_light(void) { return peer_light(W32, &k, peer_frame, FRAME, &peer_a, scratch); }
 
-static int lib_clear(void) { return haze_clear(w, h, SETTINGS, a[0], a[1], a[2], frame, FRAME, map, w * h, picture, FRAME, WORK); }
-static int own_clear(void) { return peer_clear(W32, &pk, peer_frame, FRAME, peer_a, peer_map, w * h, peer_picture, FRAME, scratch); }
+static int lib_clear(void) { return haze_clear(w, h, &k, &a, frame, FRAME, map, w * h, picture, FRAME, WORK); }
+static int own_clear(void) { return peer_clear(W32, &k, &peer_a, peer_frame, FRAME, peer_map, w * h, peer_picture, FRAME, scratch); }
 
 static int lib_replace(void)
 {
-    return haze_replace(w, h, SETTINGS, a[0], a[1], a[2], column, row, SIDE, SIDE, pixels, sizeof pixels, frame, FRAME, map, w * h, picture, FRAME, WORK);
+    return haze_replace(w, h, &k, &a, &rect, pixels, sizeof pixels, frame, FRAME, map, w * h, picture, FRAME, WORK);
 }
 static int own_replace(void)
 {
-    return peer_replace(W32, &pk, peer_frame, FRAME, peer_a, (uint32_t)column, (uint32_t)row, SIDE, SIDE, pixels, sizeof pixels, peer_map, w * h,
-                        peer_picture, FRAME, scratch);
+    return peer_replace(W32, &k, &peer_a, &rect, pixels, sizeof pixels, peer_frame, FRAME, peer_map, w * h, peer_picture, FRAME, scratch);
 }
 
-static int lib_add(void) { return haze_add(w, h, a[0], a[1], a[2], picture, FRAME, map, w * h, hazy, FRAME); }
-static int own_add(void) { return peer_add(W32, peer_picture, FRAME, peer_a, peer_map, w * h, peer_hazy, FRAME); }
+static int lib_add(void) { return haze_add(w, h, &a.light, picture, FRAME, map, w * h, hazy, FRAME); }
+static int own_add(void) { return peer_add(W32, &peer_a.light, peer_picture, FRAME, peer_map, w * h, peer_hazy, FRAME); }
 
 static int lib_band(void) { return haze_band(w, h, map, w * h, 0, h, &mean, &least); }
 static int own_band(void) { return peer_band(W32, peer_map, w * h, 0, (uint32_t)h, &peer_mean, &peer_least); }
@@ -76,7 +75,7 @@ static void stop(const char *why)
 
 static void equal(void)
 {
-    if (memcmp(a, peer_a, 3) || memcmp(frame, peer_frame, FRAME) || memcmp(map, peer_map, 2 * w * h) || memcmp(picture, peer_picture, FRAME)
+    if (memcmp(&a, &peer_a, sizeof a) || memcmp(frame, peer_frame, FRAME) || memcmp(map, peer_map, 2 * w * h) || memcmp(picture, peer_picture, FRAME)
         || memcmp(hazy, peer_hazy, FRAME) || memcmp(&mean, &peer_mean, 8) || memcmp(&least, &peer_least, 8)
         || memcmp(depths, peer_depths_of, 2 * w * h))
         stop("library and peer differ");
@@ -86,10 +85,10 @@ static void must(int answer) { if (answer) stop("a call was refused"); }
 
 static void prepare(uint64_t side, uint64_t s, uint64_t r)
 {
-    settings set = {s, r, 9500, 59, 1000, 1};
-    peer_settings peer_set = {(uint32_t)s, (uint32_t)r, 9500, 59, 1000, 1};
-    k = set;
-    pk = peer_set;
+    const struct haze_settings usual = HAZE_SETTINGS_DEFAULT;
+    k = usual;
+    k.s = s;
+    k.r = r;
     w = h = side;
     drawn = 5;
     paint_as(HAZY, frame, w, h);
@@ -129,7 +128,7 @@ int main(void)
     line("haze", lib_add, own_add);
     line("band", lib_band, own_band);
     line("depths", lib_depths, own_depths);
-    column = row = 240;
+    rect.column = rect.row = 240;
     line("replace 32x32, middle", lib_replace, own_replace);
     line("PPM written", lib_write, copy);
     line("PPM read", lib_read, copy);
@@ -198,9 +197,9 @@ static void calls(void)
     line("haze", lib_add, own_add);
     line("band, all rows", lib_band, own_band);
     line("depths", lib_depths, own_depths);
-    column = row = 240;
+    rect.column = rect.row = 240;
     middle = line("replace 32x32, middle", lib_replace, own_replace);
-    column = row = 0;
+    rect.column = rect.row = 0;
     line("replace 32x32, corner", lib_replace, own_replace);
     measure(wipe, wipe);
     printf("replace in the middle is %.2f of a clear; wiping the work area, which the peer has not, is %.3f ms of each call that is lent one\n",

@@ -1,13 +1,10 @@
-/* Random numbers, frames, settings and rectangles for the host programs. The same seed gives the same run on every machine. */
+/* Random numbers and frames for the host programs. The same seed gives the same run on every machine. */
 #ifndef FRAMES_H
 #define FRAMES_H
 #include <stddef.h>
 #include <stdint.h>
 
 #define MAX_PIXELS 262144
-
-/* The settings as C hands them over. */
-typedef struct { uint64_t s, r, omega, e, t0, share; } settings;
 
 /* A number that depends on every bit of x. */
 static inline uint64_t mixed(uint64_t x)

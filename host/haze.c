@@ -22,12 +22,17 @@ enum { S, R, OMEGA, E, T0, SHARE, LIGHT, KINDS };
 static const char *const kinds[KINDS] = {"s=", "r=", "omega=", "e=", "t0=", "share=", "light="};
 
 typedef struct {
-    uint64_t setting[LIGHT];
-    uint8_t light[3];
+    struct haze_settings settings;
+    struct haze_lights lights;
     int given[KINDS];
 } options;
 
-#define SETTINGS(o) (o)->setting[S], (o)->setting[R], (o)->setting[OMEGA], (o)->setting[E], (o)->setting[T0], (o)->setting[SHARE]
+/* Where the number of a setting goes. */
+static uint64_t *place(struct haze_settings *k, int kind)
+{
+    uint64_t *const places[LIGHT] = {&k->s, &k->r, &k->omega, &k->e, &k->t0, &k->share};
+    return places[kind];
+}
 
 _Noreturn static void wrong_use(const char *what, const char *word)
 {
@@ -55,15 +60,16 @@ static int setting_in(const char *text, uint64_t *value)
     return rest && !*rest;
 }
 
-static int light_in(const char *text, uint8_t light[3])
+static int light_in(const char *text, struct haze_rgb *light)
 {
     static const char after[3] = {',', ',', 0};
+    uint8_t *const channels[3] = {&light->red, &light->green, &light->blue};
     uint64_t value;
     int c;
     for (c = 0; c < 3; c++) {
         text = number(text, UINT8_MAX, &value);
         if (!text || *text != after[c]) return 0;
-        light[c] = (uint8_t)value;
+        *channels[c] = (uint8_t)value;
         text++;
     }
     return 1;
@@ -78,29 +84,20 @@ static void take(options *o, const char *word, int first)
     if (k == KINDS) wrong_use("this is no setting here: ", word);
     if (o->given[k]++) wrong_use("this setting stands twice: ", word);
     text = word + strlen(kinds[k]);
-    if (!(k == LIGHT ? light_in(text, o->light) : setting_in(text, &o->setting[k]))) wrong_use("this is no number, or too large: ", word);
+    if (!(k == LIGHT ? light_in(text, &o->lights.light) : setting_in(text, place(&o->settings, k)))) wrong_use("this is no number, or too large: ", word);
 }
 
 /* ---- refusals */
 
-/* What the numbers mean that these commands can meet. A map of another shape (4) is said where it is found. */
-static const char *const meanings[] = {
-    [HAZE_BAD_SIZE] = "width or height is not 1 to 1024, or there are more than 262144 pixels",
-    [HAZE_BAD_SETTING] = "a setting is outside its range",
-    [HAZE_BAD_LIGHT] = "a channel of the light is 0",
-    [HAZE_BAD_ENTRY] = "an entry of the map is above 10000",
-    [HAZE_BAD_HEADER] = "the header is bad",
-    [HAZE_BAD_MAXIMUM] = "the maximum is not 255, or in a map not 10000",
-    [HAZE_BAD_LENGTH] = "the pixels are short or bytes are left over",
-};
-
-static void judged(const char *path, uint8_t answer)
+static void judged_as(const char *path, uint8_t answer, const char *words)
 {
     char number[sizeof "refused 255"];
     if (!answer) return;
     snprintf(number, sizeof number, "refused %d", answer);
-    stop(path, number, meanings[answer]);
+    stop(path, number, words);
 }
+
+static void judged(const char *path, uint8_t answer) { judged_as(path, answer, haze_words(answer)); }
 
 /* ---- frames and maps */
 
@@ -157,9 +154,10 @@ static map read_map(const char *path)
     content file = read_file(path);
     uint64_t w, h, start;
     const uint8_t *at;
+    uint8_t answer = map_refused(&file, &w, &h, &start);
     size_t i;
     map m;
-    judged(path, map_refused(&file, &w, &h, &start));
+    judged_as(path, answer, answer == HAZE_BAD_MAXIMUM ? "the maximum of a map is not 10000" : haze_words(answer));
     m = new_map(path, w, h);
     for (i = 0, at = file.bytes + start; i < m.count; i++, at += 2) m.entries[i] = (uint16_t)(256 * at[0] + at[1]);
     free(file.bytes);
@@ -189,7 +187,7 @@ static void find_light(options *o, const frame *f)
     int64_t *work;
     if (o->given[LIGHT]) return;
     work = memory(room * sizeof *work);
-    judged(f->path, haze_light(f->w, f->h, SETTINGS(o), f->bytes, f->length, work, room, &o->light[0], &o->light[1], &o->light[2]));
+    judged(f->path, haze_light(f->w, f->h, &o->settings, f->bytes, f->length, work, room, &o->lights));
     free(work);
 }
 
@@ -202,8 +200,8 @@ static void clear_frame(const char *path, options *o, frame *picture, map *throu
     find_light(o, &f);
     *picture = new_frame(NULL, f.w, f.h);
     *through = new_map(NULL, f.w, f.h);
-    judged(path, haze_clear(f.w, f.h, SETTINGS(o), o->light[0], o->light[1], o->light[2], f.bytes, f.length, through->entries, through->count,
-                            picture->bytes, picture->length, work, room));
+    judged(path, haze_clear(f.w, f.h, &o->settings, &o->lights, f.bytes, f.length, through->entries, through->count, picture->bytes, picture->length,
+                            work, room));
 }
 
 static void clear(char **files, options *o)
@@ -248,7 +246,7 @@ static void add(char **files, options *o)
     uint8_t answer;
     same_shape(&clean, &m);
     find_light(o, &clean);
-    answer = haze_add(clean.w, clean.h, o->light[0], o->light[1], o->light[2], clean.bytes, clean.length, m.entries, m.count, hazy.bytes, hazy.length);
+    answer = haze_add(clean.w, clean.h, &o->lights.light, clean.bytes, clean.length, m.entries, m.count, hazy.bytes, hazy.length);
     judged(answer == HAZE_BAD_ENTRY ? m.path : clean.path, answer);
     write_frame(&hazy);
 }
@@ -263,7 +261,7 @@ static const struct {
 
 int main(int count, char **words)
 {
-    options o = {{7, 30, 9500, 59, 1000, 1}, {0, 0, 0}, {0}};
+    options o = {HAZE_SETTINGS_DEFAULT, {{0, 0, 0}}, {0}};
     int c = 0, k;
     if (count < 2) wrong_use("a command is wanted", "");
     if (count == 2 && !strcmp(words[1], "help")) {

@@ -1,11 +1,12 @@
 #!/bin/sh
-# native_module.sh OUT: the library's own LLVM module, compiled for the machine at hand, as OUT.o, and its text as OUT.ll. For measuring alone: what is
-# proved and delivered is the x86-64 archive that `rt staticlib haze_c` writes.
+# native_module.sh CRATE OUT: the LLVM module of a library for C, compiled for the machine at hand, as OUT.o, and its text as OUT.ll. For measuring alone:
+# what is proved and delivered is the x86-64 archive that `rt staticlib CRATE` writes.
 #
 # How: the toolchain calls its clang with one module. A shadow of the toolchain, made of links, has a clang that keeps a copy of that module and then calls
 # the real one. The repository is copied first, with what is proved of it, so that its target/ is not touched.
 set -eu
-out=$(cd "$(dirname "$1")" && pwd -P)/$(basename "$1")
+crate=$1
+out=$(cd "$(dirname "$2")" && pwd -P)/$(basename "$2")
 cd "$(dirname "$0")/.."
 kit=$(dirname "$(dirname "$(rt doc)")")
 machine=$(uname -m)
@@ -29,7 +30,7 @@ END
 chmod +x "$shadow/on/$machine/toolchain/bin/clang"
 cp -r crates.txt crates "$tmp/repo/"
 [ ! -d target/rlib ] || { mkdir "$tmp/repo/target" && cp -r target/rlib target/stamp target/log "$tmp/repo/target/"; }
-(cd "$tmp/repo" && RATTLE_HOME=$shadow rt staticlib haze_c) >"$tmp/log" 2>&1 || { cat "$tmp/log" >&2; exit 1; }
+(cd "$tmp/repo" && RATTLE_HOME=$shadow rt staticlib "$crate") >"$tmp/log" 2>&1 || { cat "$tmp/log" >&2; exit 1; }
 [ -f "$tmp/module.bc" ] || { echo "native_module: no module was kept" >&2; exit 1; }
 "$real/bin/clang" --target=x86_64-unknown-linux-gnu -O0 -Xclang -disable-llvm-passes -S -emit-llvm -x ir "$tmp/module.bc" -o "$tmp/module.ll"
 # The functions name a processor of x86-64; without the names the compiler takes this machine's default.

@@ -47,10 +47,12 @@ static int bad_size(uint32_t W, uint32_t H)
     return W < 1 || W > 1024 || H < 1 || H > 1024 || W * H > 262144;
 }
 
-static int bad_settings(const peer_settings *t)
+static int bad_light(const struct haze_rgb *a) { return !a->red || !a->green || !a->blue; }
+
+static int bad_settings(const struct haze_settings *t)
 {
-    return t->s > 30 || t->r > 60 || t->omega < 1 || t->omega > 10000 || t->E < 1
-        || t->E > 585225 || t->t0 < 1 || t->t0 > 10000 || t->share < 1 || t->share > 1000;
+    return t->s > 30 || t->r > 60 || t->omega < 1 || t->omega > 10000 || t->e < 1
+        || t->e > 585225 || t->t0 < 1 || t->t0 > 10000 || t->share < 1 || t->share > 1000;
 }
 
 /* ------------------------------------------------------------------ minimum */
@@ -126,8 +128,8 @@ static void part_min(uint16_t *v, uint16_t *t, int W, part p, int s)
 
 /* ------------------------------------------------------------------ light */
 
-int peer_light(uint32_t W, uint32_t H, const peer_settings *st,
-               const uint8_t *frame, size_t frame_len, uint8_t light[3], void *scratch)
+int peer_light(uint32_t W, uint32_t H, const struct haze_settings *st,
+               const uint8_t *frame, size_t frame_len, struct haze_lights *lights, void *scratch)
 {
     size_t n, i, m, left, best = 0;
     uint32_t count[256], part_count[4][256];
@@ -166,7 +168,10 @@ int peer_light(uint32_t W, uint32_t H, const peer_settings *st,
         sum = frame[3 * i] + frame[3 * i + 1] + frame[3 * i + 2];
         if (sum > best_sum) { best_sum = sum; best = i; }
     }
-    for (v = 0; v < 3; v++) light[v] = frame[3 * best + v] ? frame[3 * best + v] : 1;
+    frame += 3 * best;
+    lights->light.red = (uint8_t)imax(frame[0], 1);
+    lights->light.green = (uint8_t)imax(frame[1], 1);
+    lights->light.blue = (uint8_t)imax(frame[2], 1);
     return 0;
 }
 
@@ -286,10 +291,10 @@ static inline uint8_t recovered(int I, int A, float inv, float half)
 }
 
 static void recover_row(const uint8_t *restrict in, uint8_t *restrict out, const uint16_t *restrict map,
-                        int n, const uint8_t light[3], int t0)
+                        int n, const struct haze_rgb *light, int t0)
 {
     float inv[MAXSIDE], half[MAXSIDE];
-    int i, A0 = light[0], A1 = light[1], A2 = light[2];
+    int i, A0 = light->red, A1 = light->green, A2 = light->blue;
     for (i = 0; i < n; i++) {
         int T = map[i] > t0 ? map[i] : t0;
         inv[i] = 1.0f / (float)T;
@@ -303,7 +308,7 @@ static void recover_row(const uint8_t *restrict in, uint8_t *restrict out, const
 }
 
 static void refine(const planes *p, int W, int H, part o, part in, int r,
-                   const uint8_t *frame, const uint8_t light[3], int t0, uint16_t *map, uint8_t *pic)
+                   const uint8_t *frame, const struct haze_rgb *light, int t0, uint16_t *map, uint8_t *pic)
 {
     cols2 c;
     int64_t Sa[MAXSIDE], Sb[MAXSIDE];
@@ -334,18 +339,24 @@ static void refine(const planes *p, int W, int H, part o, part in, int r,
     }
 }
 
-static void clear_part(int W, int H, const peer_settings *st, const uint8_t *frame,
-                       const uint8_t light[3], part out, uint16_t *map, uint8_t *pic, void *scratch)
+/* Capped ratio of every byte of a channel to its light. */
+static void ratios(uint16_t table[256], int a)
+{
+    int i;
+    for (i = 0; i < 256; i++) table[i] = (uint16_t)imin(10000 * i / a, 10000);
+}
+
+static void clear_part(int W, int H, const struct haze_settings *st, const uint8_t *frame,
+                       const struct haze_rgb *light, part out, uint16_t *map, uint8_t *pic, void *scratch)
 {
     planes p = cut(scratch, (size_t)W * H);
-    int s = (int)st->s, r = (int)st->r, c, i, x, y;
+    int s = (int)st->s, r = (int)st->r, x, y;
+    uint32_t omega = (uint32_t)st->omega;
     part slope = grown(out, r, W, H), coarse = grown(slope, r, W, H), ratio = grown(coarse, s, W, H);
     uint16_t table[3][256];
-    for (c = 0; c < 3; c++)
-        for (i = 0; i < 256; i++) {
-            int q = 10000 * i / light[c];
-            table[c][i] = (uint16_t)imin(q, 10000);
-        }
+    ratios(table[0], light->red);
+    ratios(table[1], light->green);
+    ratios(table[2], light->blue);
     for (y = ratio.y0; y < ratio.y1; y++)
         for (x = ratio.x0; x < ratio.x1; x++) {
             size_t k = (size_t)y * W + x;
@@ -359,14 +370,14 @@ static void clear_part(int W, int H, const peer_settings *st, const uint8_t *fra
     for (y = coarse.y0; y < coarse.y1; y++) {
         uint16_t *row = p.mn + (size_t)y * W;
         for (x = coarse.x0; x < coarse.x1; x++)
-            row[x] = (uint16_t)(10000 - st->omega * row[x] / 10000);
+            row[x] = (uint16_t)(10000 - omega * row[x] / 10000);
     }
-    slopes(&p, W, H, slope, coarse, r, st->E);
+    slopes(&p, W, H, slope, coarse, r, (int64_t)st->e);
     refine(&p, W, H, out, slope, r, frame, light, (int)st->t0, map, pic);
 }
 
-static int clear_refused(uint32_t W, uint32_t H, const peer_settings *st, size_t frame_len,
-                         const uint8_t light[3], size_t map_len, size_t pic_len)
+static int clear_refused(uint32_t W, uint32_t H, const struct haze_settings *st, size_t frame_len,
+                         const struct haze_rgb *light, size_t map_len, size_t pic_len)
 {
     size_t n;
     if (bad_size(W, H)) return 1;
@@ -374,47 +385,44 @@ static int clear_refused(uint32_t W, uint32_t H, const peer_settings *st, size_t
     n = (size_t)W * H;
     if (frame_len != 3 * n) return 3;
     if (pic_len != 3 * n || map_len != n) return 4;
-    if (!light[0] || !light[1] || !light[2]) return 5;
+    if (bad_light(light)) return 5;
     return 0;
 }
 
-int peer_clear(uint32_t W, uint32_t H, const peer_settings *st,
-               const uint8_t *frame, size_t frame_len, const uint8_t light[3],
+int peer_clear(uint32_t W, uint32_t H, const struct haze_settings *st, const struct haze_lights *lights,
+               const uint8_t *frame, size_t frame_len,
                uint16_t *map, size_t map_len, uint8_t *pic, size_t pic_len, void *scratch)
 {
     part all;
-    int no = clear_refused(W, H, st, frame_len, light, map_len, pic_len);
+    int no = clear_refused(W, H, st, frame_len, &lights->light, map_len, pic_len);
     if (no) return no;
     all.x0 = all.y0 = 0; all.x1 = (int)W; all.y1 = (int)H;
-    clear_part((int)W, (int)H, st, frame, light, all, map, pic, scratch);
+    clear_part((int)W, (int)H, st, frame, &lights->light, all, map, pic, scratch);
     return 0;
 }
 
-int peer_replace(uint32_t W, uint32_t H, const peer_settings *st,
-                 uint8_t *frame, size_t frame_len, const uint8_t light[3],
-                 uint32_t x, uint32_t y, uint32_t w, uint32_t h,
-                 const uint8_t *px, size_t px_len,
+int peer_replace(uint32_t W, uint32_t H, const struct haze_settings *st, const struct haze_lights *lights,
+                 const struct haze_rect *rect, const uint8_t *px, size_t px_len,
+                 uint8_t *frame, size_t frame_len,
                  uint16_t *map, size_t map_len, uint8_t *pic, size_t pic_len, void *scratch)
 {
-    part rect;
-    uint32_t j;
-    int no = clear_refused(W, H, st, frame_len, light, map_len, pic_len);
+    uint64_t x = rect->column, y = rect->row, w = rect->width, h = rect->height, j;
+    part c;
+    int no = clear_refused(W, H, st, frame_len, &lights->light, map_len, pic_len);
     if (no) return no;
     if (w < 1 || h < 1 || x >= W || y >= H || w > W - x || h > H - y) return 6;
-    if (px_len != (size_t)3 * w * h) return 7;
-    for (j = 0; j < h; j++)
-        memcpy(frame + 3 * ((size_t)(y + j) * W + x), px + (size_t)3 * j * w, (size_t)3 * w);
-    rect.x0 = (int)x; rect.x1 = (int)(x + w); rect.y0 = (int)y; rect.y1 = (int)(y + h);
-    clear_part((int)W, (int)H, st, frame, light,
-               grown(rect, (int)(st->s + 2 * st->r), (int)W, (int)H), map, pic, scratch);
+    if (px_len != 3 * w * h) return 7;
+    for (j = 0; j < h; j++) memcpy(frame + 3 * ((y + j) * W + x), px + 3 * j * w, 3 * w);
+    c.x0 = (int)x; c.x1 = (int)(x + w); c.y0 = (int)y; c.y1 = (int)(y + h);
+    clear_part((int)W, (int)H, st, frame, &lights->light,
+               grown(c, (int)(st->s + 2 * st->r), (int)W, (int)H), map, pic, scratch);
     return 0;
 }
 
 /* ------------------------------------------------------------------ haze and band figure */
 
-int peer_add(uint32_t W, uint32_t H, const uint8_t *clean, size_t clean_len,
-              const uint8_t light[3], const uint16_t *map, size_t map_len,
-              uint8_t *hazy, size_t hazy_len)
+int peer_add(uint32_t W, uint32_t H, const struct haze_rgb *light, const uint8_t *clean, size_t clean_len,
+             const uint16_t *map, size_t map_len, uint8_t *hazy, size_t hazy_len)
 {
     size_t n, i;
     uint16_t top = 0;
@@ -423,10 +431,10 @@ int peer_add(uint32_t W, uint32_t H, const uint8_t *clean, size_t clean_len,
     n = (size_t)W * H;
     if (clean_len != 3 * n) return 3;
     if (hazy_len != 3 * n || map_len != n) return 4;
-    if (!light[0] || !light[1] || !light[2]) return 5;
+    if (bad_light(light)) return 5;
     for (i = 0; i < n; i++) top = map[i] > top ? map[i] : top;
     if (top > 10000) return 8;
-    A0 = light[0]; A1 = light[1]; A2 = light[2];
+    A0 = light->red; A1 = light->green; A2 = light->blue;
     for (i = 0; i < n; i++) {
         uint32_t t = map[i], u = 10000 - t;
         hazy[3 * i] = (uint8_t)((clean[3 * i] * t + A0 * u + 5000) / 10000);

@@ -1,28 +1,25 @@
 /* The rules of document 01, and relative depth, in C, written for speed and exact: what the library is held against, in results by the stress program and in time by
- * the bench. One thread, nothing allocated: the caller lends a scratch of peer_scratch(W, H) bytes, which is no part of the rules and stays as it falls.
+ * the bench. It is handed the library's structs. One thread, nothing allocated: the caller lends a scratch of peer_scratch(W, H) bytes, which is no part of the rules and stays as it falls.
  * Each function answers 0 or the refusal number, and a refusal writes nothing. There is no work area, and so no refusal of one. */
 #ifndef PEER_H
 #define PEER_H
 #include <stddef.h>
 #include <stdint.h>
-
-typedef struct { uint32_t s, r, omega, E, t0, share; } peer_settings;
+#include "haze.h"
 
 size_t peer_scratch(uint32_t W, uint32_t H);
 
-int peer_light(uint32_t W, uint32_t H, const peer_settings *st,
-               const uint8_t *frame, size_t frame_len, uint8_t light[3], void *scratch);
-int peer_clear(uint32_t W, uint32_t H, const peer_settings *st,
-               const uint8_t *frame, size_t frame_len, const uint8_t light[3],
+int peer_light(uint32_t W, uint32_t H, const struct haze_settings *st,
+               const uint8_t *frame, size_t frame_len, struct haze_lights *lights, void *scratch);
+int peer_clear(uint32_t W, uint32_t H, const struct haze_settings *st, const struct haze_lights *lights,
+               const uint8_t *frame, size_t frame_len,
                uint16_t *map, size_t map_len, uint8_t *pic, size_t pic_len, void *scratch);
-int peer_replace(uint32_t W, uint32_t H, const peer_settings *st,
-                 uint8_t *frame, size_t frame_len, const uint8_t light[3],
-                 uint32_t x, uint32_t y, uint32_t w, uint32_t h,
-                 const uint8_t *px, size_t px_len,
+int peer_replace(uint32_t W, uint32_t H, const struct haze_settings *st, const struct haze_lights *lights,
+                 const struct haze_rect *rect, const uint8_t *px, size_t px_len,
+                 uint8_t *frame, size_t frame_len,
                  uint16_t *map, size_t map_len, uint8_t *pic, size_t pic_len, void *scratch);
-int peer_add(uint32_t W, uint32_t H, const uint8_t *clean, size_t clean_len,
-              const uint8_t light[3], const uint16_t *map, size_t map_len,
-              uint8_t *hazy, size_t hazy_len);
+int peer_add(uint32_t W, uint32_t H, const struct haze_rgb *light, const uint8_t *clean, size_t clean_len,
+             const uint16_t *map, size_t map_len, uint8_t *hazy, size_t hazy_len);
 int peer_band(uint32_t W, uint32_t H, const uint16_t *map, size_t map_len,
               uint32_t from, uint32_t to, double *mean, double *least);
 int peer_depths(uint32_t W, uint32_t H, const uint16_t *map, size_t map_len,

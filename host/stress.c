@@ -55,15 +55,23 @@ static void *lend(loan *l, size_t n)
 
 /* ---- the arguments of a call, and what is said when it goes wrong */
 
-static struct {
+static struct arguments {
     const char *call;
     uint64_t w, h;
-    settings k;
-    uint8_t a[3];
-    uint64_t column, row, width, height, from, to;
-} now;
+    struct haze_settings k;
+    struct haze_lights a;
+    struct haze_rect rect;
+    uint64_t from, to;
+} now, handed; /* as they stand now, and as they were when the call was made */
 
 static uint64_t seed, calls;
+
+static void begin(const char *call)
+{
+    now.call = call;
+    calls++;
+    memcpy(&handed, &now, sizeof now);
+}
 
 static void differ(const char *what, uint64_t at, uint64_t got, uint64_t want)
 {
@@ -71,9 +79,9 @@ static void differ(const char *what, uint64_t at, uint64_t got, uint64_t want)
            (unsigned long long)at, (unsigned long long)got, (unsigned long long)want);
     printf("  w %llu h %llu s %llu r %llu omega %llu e %llu t0 %llu share %llu light %d %d %d\n", (unsigned long long)now.w, (unsigned long long)now.h,
            (unsigned long long)now.k.s, (unsigned long long)now.k.r, (unsigned long long)now.k.omega, (unsigned long long)now.k.e,
-           (unsigned long long)now.k.t0, (unsigned long long)now.k.share, now.a[0], now.a[1], now.a[2]);
-    printf("  column %llu row %llu width %llu height %llu from %llu to %llu\n", (unsigned long long)now.column, (unsigned long long)now.row,
-           (unsigned long long)now.width, (unsigned long long)now.height, (unsigned long long)now.from, (unsigned long long)now.to);
+           (unsigned long long)now.k.t0, (unsigned long long)now.k.share, now.a.light.red, now.a.light.green, now.a.light.blue);
+    printf("  column %llu row %llu width %llu height %llu from %llu to %llu\n", (unsigned long long)now.rect.column, (unsigned long long)now.rect.row,
+           (unsigned long long)now.rect.width, (unsigned long long)now.rect.height, (unsigned long long)now.from, (unsigned long long)now.to);
     exit(1);
 }
 
@@ -101,6 +109,7 @@ static void guards(void)
         const uint8_t *byte = broken(loans[k]);
         if (byte) differ(byte < (uint8_t *)lent(loans[k]) ? "a guard before a buffer" : "a guard after a buffer", k, *byte, GUARD_BYTE);
     }
+    if (memcmp(&handed, &now, sizeof now)) differ("a struct that is only read", 0, 0, 0);
 }
 
 /* After an accepted call: 0 to HAZE_WORK(w, h), the rest as it was. */
@@ -124,11 +133,11 @@ static int bad_settings(void)
         || outside(now.k.t0, 1, 10000) || outside(now.k.share, 1, 1000);
 }
 
-static int bad_light(void) { return !now.a[0] || !now.a[1] || !now.a[2]; }
+static int bad_light(void) { return !now.a.light.red || !now.a.light.green || !now.a.light.blue; }
 
 static int bad_rect(void)
 {
-    return !now.width || !now.height || now.column >= now.w || now.width > now.w - now.column || now.row >= now.h || now.height > now.h - now.row;
+    return !now.rect.width || !now.rect.height || now.rect.column >= now.w || now.rect.width > now.w - now.rect.column || now.rect.row >= now.h || now.rect.height > now.h - now.rect.row;
 }
 
 static int bad_entries(void)
@@ -160,7 +169,7 @@ static int refused_replace(void)
     int n = refused_clear();
     if (n) return n;
     if (bad_rect()) return 6;
-    return pixels_loan.bytes != 3 * now.width * now.height ? 7 : 0;
+    return pixels_loan.bytes != 3 * now.rect.width * now.rect.height ? 7 : 0;
 }
 
 static int refused_add(void)     /* the clean frame is lent as frame, the hazy one as picture */
@@ -186,15 +195,8 @@ static uint8_t frame_copy[3 * MAX_PIXELS + 8], picture_copy[3 * MAX_PIXELS + 8],
 static uint16_t map_copy[MAX_PIXELS + 8];
 static _Alignas(64) uint8_t scratch[16 * MAX_PIXELS];
 
-static peer_settings as_peer(void)
-{
-    peer_settings p = {(uint32_t)now.k.s, (uint32_t)now.k.r, (uint32_t)now.k.omega, (uint32_t)now.k.e, (uint32_t)now.k.t0, (uint32_t)now.k.share};
-    return p;
-}
-
 #define SIZE now.w, now.h
-#define SETTINGS now.k.s, now.k.r, now.k.omega, now.k.e, now.k.t0, now.k.share
-#define LIGHT now.a[0], now.a[1], now.a[2]
+#define SIZE32 (uint32_t)now.w, (uint32_t)now.h
 #define WHOLE(l) lent(&l), entries(&l)
 
 static void kept_copies(void)
@@ -206,19 +208,18 @@ static void kept_copies(void)
 
 static uint8_t light(void)
 {
-    uint8_t want[3], *place = lend(&light_loan, 3), got;
-    peer_settings p = as_peer();
-    now.call = "light";
-    calls++;
+    struct haze_lights want, *place = lend(&light_loan, sizeof *place);
+    uint8_t got;
+    begin("light");
     memcpy(frame_copy, lent(&frame_loan), frame_loan.bytes);
-    got = haze_light(SIZE, SETTINGS, WHOLE(frame_loan), WHOLE(work_loan), place, place + 1, place + 2);
+    got = haze_light(SIZE, &now.k, WHOLE(frame_loan), WHOLE(work_loan), place);
     same_number(got, (uint64_t)refused_light());
     if (got) {
         as_it_was(&light_loan, 0);
         as_it_was(&work_loan, 0);
     } else {
-        same_number(0, (uint64_t)peer_light((uint32_t)now.w, (uint32_t)now.h, &p, frame_copy, frame_loan.bytes, want, scratch));
-        same_bytes(&light_loan, want);
+        same_number(0, (uint64_t)peer_light(SIZE32, &now.k, frame_copy, frame_loan.bytes, &want, scratch));
+        same_bytes(&light_loan, (uint8_t *)&want);
         wiped();
     }
     same_bytes(&frame_loan, frame_copy);
@@ -228,17 +229,15 @@ static uint8_t light(void)
 
 static uint8_t clear(void)
 {
-    peer_settings p = as_peer();
     uint8_t got;
-    now.call = "clear";
-    calls++;
+    begin("clear");
     kept_copies();
-    got = haze_clear(SIZE, SETTINGS, LIGHT, WHOLE(frame_loan), WHOLE(map_loan), WHOLE(picture_loan), WHOLE(work_loan));
+    got = haze_clear(SIZE, &now.k, &now.a, WHOLE(frame_loan), WHOLE(map_loan), WHOLE(picture_loan), WHOLE(work_loan));
     same_number(got, (uint64_t)refused_clear());
     if (got) as_it_was(&work_loan, 0);
     else {
-        same_number(0, (uint64_t)peer_clear((uint32_t)now.w, (uint32_t)now.h, &p, frame_copy, frame_loan.bytes, now.a, map_copy, entries(&map_loan),
-                                            picture_copy, picture_loan.bytes, scratch));
+        same_number(0, (uint64_t)peer_clear(SIZE32, &now.k, &now.a, frame_copy, frame_loan.bytes, map_copy, entries(&map_loan), picture_copy,
+                                            picture_loan.bytes, scratch));
         wiped();
     }
     same_bytes(&frame_loan, frame_copy);
@@ -250,19 +249,15 @@ static uint8_t clear(void)
 
 static uint8_t replace(void)
 {
-    peer_settings p = as_peer();
     uint8_t got;
-    now.call = "replace";
-    calls++;
+    begin("replace");
     kept_copies();
     memcpy(pixels_copy, lent(&pixels_loan), pixels_loan.bytes);
-    got = haze_replace(SIZE, SETTINGS, LIGHT, now.column, now.row, now.width, now.height, WHOLE(pixels_loan), WHOLE(frame_loan), WHOLE(map_loan),
-                       WHOLE(picture_loan), WHOLE(work_loan));
+    got = haze_replace(SIZE, &now.k, &now.a, &now.rect, WHOLE(pixels_loan), WHOLE(frame_loan), WHOLE(map_loan), WHOLE(picture_loan), WHOLE(work_loan));
     same_number(got, (uint64_t)refused_replace());
     if (got) as_it_was(&work_loan, 0);
     else {
-        same_number(0, (uint64_t)peer_replace((uint32_t)now.w, (uint32_t)now.h, &p, frame_copy, frame_loan.bytes, now.a, (uint32_t)now.column,
-                                              (uint32_t)now.row, (uint32_t)now.width, (uint32_t)now.height, pixels_copy, pixels_loan.bytes, map_copy,
+        same_number(0, (uint64_t)peer_replace(SIZE32, &now.k, &now.a, &now.rect, pixels_copy, pixels_loan.bytes, frame_copy, frame_loan.bytes, map_copy,
                                               entries(&map_loan), picture_copy, picture_loan.bytes, scratch));
         wiped();
     }
@@ -277,14 +272,12 @@ static uint8_t replace(void)
 static uint8_t add(void)
 {
     uint8_t got;
-    now.call = "add";
-    calls++;
+    begin("add");
     kept_copies();
-    got = haze_add(SIZE, LIGHT, WHOLE(frame_loan), WHOLE(map_loan), WHOLE(picture_loan));
+    got = haze_add(SIZE, &now.a.light, WHOLE(frame_loan), WHOLE(map_loan), WHOLE(picture_loan));
     same_number(got, (uint64_t)refused_add());
     if (!got)
-        same_number(0, (uint64_t)peer_add((uint32_t)now.w, (uint32_t)now.h, frame_copy, frame_loan.bytes, now.a, map_copy, entries(&map_loan),
-                                          picture_copy, picture_loan.bytes));
+        same_number(0, (uint64_t)peer_add(SIZE32, &now.a.light, frame_copy, frame_loan.bytes, map_copy, entries(&map_loan), picture_copy, picture_loan.bytes));
     same_bytes(&frame_loan, frame_copy);
     same_bytes(&map_loan, (uint8_t *)map_copy);
     same_bytes(&picture_loan, picture_copy);
@@ -296,8 +289,7 @@ static uint8_t band(void)
 {
     double want[2], *mean = lend(&mean_loan, 1), *least = lend(&least_loan, 1);
     uint8_t got;
-    now.call = "band";
-    calls++;
+    begin("band");
     memcpy(map_copy, lent(&map_loan), map_loan.bytes);
     got = haze_band(SIZE, WHOLE(map_loan), now.from, now.to, mean, least);
     same_number(got, (uint64_t)refused_band());
@@ -305,7 +297,7 @@ static uint8_t band(void)
         as_it_was(&mean_loan, 0);
         as_it_was(&least_loan, 0);
     } else {
-        same_number(0, (uint64_t)peer_band((uint32_t)now.w, (uint32_t)now.h, map_copy, entries(&map_loan), (uint32_t)now.from, (uint32_t)now.to, want,
+        same_number(0, (uint64_t)peer_band(SIZE32, map_copy, entries(&map_loan), (uint32_t)now.from, (uint32_t)now.to, want,
                                            want + 1));
         same_bytes(&mean_loan, (uint8_t *)want);
         same_bytes(&least_loan, (uint8_t *)(want + 1));
@@ -343,19 +335,22 @@ static void good_settings(void)
     now.k.share = one_in(2) ? from_to(1, 20) : with_ends(1, 1000);
 }
 
+static uint8_t good_channel(void) { return (uint8_t)(one_in(2) ? from_to(180, 255) : with_ends(1, 255)); }
+
 static void good_light(void)
 {
-    int c;
-    for (c = 0; c < 3; c++) now.a[c] = (uint8_t)(one_in(2) ? from_to(180, 255) : with_ends(1, 255));
+    now.a.light.red = good_channel();
+    now.a.light.green = good_channel();
+    now.a.light.blue = good_channel();
 }
 
 static void good_rect(void)
 {
-    now.column = from_to(0, now.w - 1);
-    now.row = from_to(0, now.h - 1);
-    now.width = one_in(3) ? now.w - now.column : from_to(1, now.w - now.column);
-    now.height = one_in(3) ? now.h - now.row : from_to(1, now.h - now.row);
-    if (one_in(4)) now.width = now.height = 1;
+    now.rect.column = from_to(0, now.w - 1);
+    now.rect.row = from_to(0, now.h - 1);
+    now.rect.width = one_in(3) ? now.w - now.rect.column : from_to(1, now.w - now.rect.column);
+    now.rect.height = one_in(3) ? now.h - now.rect.row : from_to(1, now.h - now.rect.row);
+    if (one_in(4)) now.rect.width = now.rect.height = 1;
 }
 
 static void good_band(void)
@@ -367,7 +362,7 @@ static void good_band(void)
 static void lend_rect(void)
 {
     good_rect();
-    paint(lend(&pixels_loan, 3 * now.width * now.height), now.width, now.height);
+    paint(lend(&pixels_loan, 3 * now.rect.width * now.rect.height), now.rect.width, now.rect.height);
 }
 
 /* Everything that any of the calls takes. The map is one that may be read; room is the least work area. */
@@ -427,11 +422,11 @@ static void spoil(void)
     case 12: lend(&picture_loan, about(entries(&picture_loan))); break;
     case 13: lend(&work_loan, one_in(2) ? room - 1 : 0); break;
     case 14: lend(&pixels_loan, about(entries(&pixels_loan))); break;
-    case 15: now.a[draw() % 3] = 0; break;
-    case 16: now.width = one_in(2) ? now.w - now.column + 1 : other(now.width); break;
-    case 17: now.height = one_in(2) ? now.h - now.row + 1 : other(now.height); break;
-    case 18: now.column = one_in(2) ? now.w : other(now.column); break;
-    case 19: now.row = one_in(2) ? now.h : other(now.row); break;
+    case 15: ((uint8_t *)&now.a.light)[draw() % 3] = 0; break;
+    case 16: now.rect.width = one_in(2) ? now.w - now.rect.column + 1 : other(now.rect.width); break;
+    case 17: now.rect.height = one_in(2) ? now.h - now.rect.row + 1 : other(now.rect.height); break;
+    case 18: now.rect.column = one_in(2) ? now.w : other(now.rect.column); break;
+    case 19: now.rect.row = one_in(2) ? now.h : other(now.rect.row); break;
     case 20: now.from = one_in(2) ? now.to : other(now.from); break;
     case 21: now.to = one_in(2) ? now.h + 1 : other(now.to); break;
     default:
@@ -470,7 +465,7 @@ static void run(int how)
     for (k = 0; k < n; k++) {
         lend_rect();
         lend(&work_loan, HAZE_WORK(w, h));
-        if (one_in(4)) now.column = one_in(2) ? now.w : now.column + now.w;
+        if (one_in(4)) now.rect.column = one_in(2) ? now.w : now.rect.column + now.w;
         if (one_in(8)) lend(&pixels_loan, about(entries(&pixels_loan)));
         replace();
     }
@@ -489,7 +484,7 @@ static void run(int how)
 
 static void defaults(uint64_t w, uint64_t h)
 {
-    settings k = {7, 30, 9500, 59, 1000, 1};
+    const struct haze_settings k = HAZE_SETTINGS_DEFAULT;
     good(SMALL);
     now.k = k;
     now.w = w;
@@ -502,10 +497,8 @@ static void defaults(uint64_t w, uint64_t h)
 
 static void rect_at(uint64_t column, uint64_t row, uint64_t width, uint64_t height)
 {
-    now.column = column;
-    now.row = row;
-    now.width = width;
-    now.height = height;
+    const struct haze_rect c = {column, row, width, height};
+    now.rect = c;
     lend(&pixels_loan, 3 * width * height);
 }
 

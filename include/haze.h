@@ -11,9 +11,11 @@
  * After a call that returns 0 the first HAZE_WORK(w, h) entries of the work area are 0, and the rest is untouched. What it held before means nothing.
  *
  * What the caller must keep, since no function can see it:
- * - A pointer is valid for its length: n bytes, or n entries of 2 or of 8 bytes, that may be read, and written where it is not const. It is aligned to
- *   its type, and it is not null, for a length of 0 either. A length is a count of entries, not of bytes.
- * - What is lent for writing overlaps nothing else that is lent to the same call. The places for results are lent for writing.
+ * - A pointer with a length is valid for it: n bytes, or n entries of 2 or of 8 bytes. A length is a count of entries, not of bytes. A pointer to a struct or
+ *   to a place for a result is valid for it whole. What is pointed to may be read, and written where it is not const. Every pointer is aligned to its type
+ *   and is not null, for a length of 0 either.
+ * - What is lent for writing overlaps nothing else that is lent to the same call, no struct either. The places for results are lent for writing, the struct
+ *   that haze_light fills among them.
  * - No other thread writes what is lent while the call runs, nor reads what is lent for writing. Calls on buffers of their own may run side by side.
  */
 #ifndef HAZE_H
@@ -44,34 +46,85 @@ enum haze_answer {
     HAZE_BAD_LENGTH = 13   /* the pixels are short or bytes are left over, a second picture among them */
 };
 
-/* The settings, in the order of the parameters; all six are judged, used or not:
- *   s      0 to 30       radius of the dark value                      usually 7
- *   r      0 to 60       radius of the filter                          usually 30
- *   omega  1 to 10000    how much of the haze goes, in ten-thousandths usually 9500
- *   e      1 to 585225   regularisation, in squared guide units        usually 59
- *   t0     1 to 10000    floor of the transmission                     usually 1000
- *   share  1 to 1000     pixels that may give the light, per thousand  usually 1
- */
+/* What a number that is returned means, in words. */
+static inline const char *haze_words(uint8_t number)
+{
+    switch (number) {
+    case HAZE_DONE: return "done";
+    case HAZE_BAD_SIZE: return "width or height is not 1 to 1024, or there are more than 262144 pixels";
+    case HAZE_BAD_SETTING: return "a setting is outside its range";
+    case HAZE_BAD_FRAME: return "the frame is not 3*w*h bytes";
+    case HAZE_BAD_BUFFER: return "a buffer to write to, or a map, is not of its length, or the work area is too small";
+    case HAZE_BAD_LIGHT: return "a channel of the light is 0";
+    case HAZE_BAD_PLACE: return "the rectangle or the band is empty or reaches outside the frame";
+    case HAZE_BAD_PIXELS: return "the new pixels are not 3*width*height bytes";
+    case HAZE_BAD_ENTRY: return "an entry of the map is above 10000";
+    case HAZE_BAD_HEADER: return "the header is bad";
+    case HAZE_BAD_MAXIMUM: return "the maximum is not 255";
+    case HAZE_BAD_LENGTH: return "the pixels are short or bytes are left over";
+    default: return "no number that these functions return";
+    }
+}
 
-/* Light: finds the ambient light of a frame. Checks 1, 2, 3, 4. The light's channels, each at least 1, go to *red, *green and *blue. */
-uint8_t haze_light(uint64_t w, uint64_t h, uint64_t s, uint64_t r, uint64_t omega, uint64_t e, uint64_t t0, uint64_t share,
-                   const uint8_t *frame, size_t frame_len, int64_t *work, size_t work_len, uint8_t *red, uint8_t *green, uint8_t *blue);
+/* The settings; all six are judged, used or not. */
+struct haze_settings {
+    uint64_t s;     /* 0 to 30      radius of the dark value */
+    uint64_t r;     /* 0 to 60      radius of the filter */
+    uint64_t omega; /* 1 to 10000   how much of the haze goes, in ten-thousandths */
+    uint64_t e;     /* 1 to 585225  regularisation, in squared guide units */
+    uint64_t t0;    /* 1 to 10000   floor of the transmission */
+    uint64_t share; /* 1 to 1000    pixels that may give the light, per thousand */
+};
+
+/* The usual settings: struct haze_settings settings = HAZE_SETTINGS_DEFAULT; */
+#define HAZE_SETTINGS_DEFAULT {7, 30, 9500, 59, 1000, 1}
+
+/* A colour. */
+struct haze_rgb {
+    uint8_t red, green, blue;
+};
+
+/* What haze_light finds and haze_clear and haze_replace are handed. */
+struct haze_lights {
+    struct haze_rgb light;
+};
+
+/* Width columns from column on, height rows from row on. */
+struct haze_rect {
+    uint64_t column, row, width, height;
+};
+
+/* The library takes each struct as an array of its members: there is nothing between them. */
+#ifdef __cplusplus
+#define HAZE_ARRAY(type, count, entry) static_assert(sizeof(type) == (count) * sizeof(entry), "laid out as the library has it")
+#else
+#define HAZE_ARRAY(type, count, entry) _Static_assert(sizeof(type) == (count) * sizeof(entry), "laid out as the library has it")
+#endif
+HAZE_ARRAY(struct haze_settings, 6, uint64_t);
+HAZE_ARRAY(struct haze_rgb, 3, uint8_t);
+HAZE_ARRAY(struct haze_lights, 3, uint8_t);
+HAZE_ARRAY(struct haze_rect, 4, uint64_t);
+#undef HAZE_ARRAY
+
+/* Light: finds the ambient light of a frame. Checks 1, 2, 3, 4. The light's channels, each at least 1, go to lights->light. */
+uint8_t haze_light(uint64_t w, uint64_t h, const struct haze_settings *settings, const uint8_t *frame, size_t frame_len,
+                   int64_t *work, size_t work_len, struct haze_lights *lights);
 
 /* Clear: the transmission map and the cleared picture of a frame under a light. Checks 1 to 5. */
-uint8_t haze_clear(uint64_t w, uint64_t h, uint64_t s, uint64_t r, uint64_t omega, uint64_t e, uint64_t t0, uint64_t share,
-                   uint8_t red, uint8_t green, uint8_t blue, const uint8_t *frame, size_t frame_len,
-                   uint16_t *map, size_t map_len, uint8_t *picture, size_t picture_len, int64_t *work, size_t work_len);
+uint8_t haze_clear(uint64_t w, uint64_t h, const struct haze_settings *settings, const struct haze_lights *lights,
+                   const uint8_t *frame, size_t frame_len, uint16_t *map, size_t map_len, uint8_t *picture, size_t picture_len,
+                   int64_t *work, size_t work_len);
 
-/* Replace: the new pixels, row after row, go into the frame at the rectangle of width columns from column on and height rows from row on. Map entries
- * and picture pixels at most s + 2r rows and columns from it become those that haze_clear gives for the new frame; all others stay. Checks 1 to 7.
- * After haze_clear and any calls of haze_replace with the same size, settings and light, map and picture are those of a haze_clear of the frame. */
-uint8_t haze_replace(uint64_t w, uint64_t h, uint64_t s, uint64_t r, uint64_t omega, uint64_t e, uint64_t t0, uint64_t share,
-                     uint8_t red, uint8_t green, uint8_t blue, uint64_t column, uint64_t row, uint64_t width, uint64_t height,
-                     const uint8_t *pixels, size_t pixels_len, uint8_t *frame, size_t frame_len,
-                     uint16_t *map, size_t map_len, uint8_t *picture, size_t picture_len, int64_t *work, size_t work_len);
+/* Replace: the new pixels, row after row, go into the frame at the rectangle. Map entries and picture pixels at most s + 2r rows and columns from it become
+ * those that haze_clear gives for the new frame; all others stay. Checks 1 to 7.
+ * After an accepted haze_clear and any calls of haze_replace, accepted and refused, with the same size, settings and light, map and picture are those of a
+ * haze_clear of the frame as it then is. */
+uint8_t haze_replace(uint64_t w, uint64_t h, const struct haze_settings *settings, const struct haze_lights *lights, const struct haze_rect *rect,
+                     const uint8_t *pixels, size_t pixels_len, uint8_t *frame, size_t frame_len, uint16_t *map, size_t map_len,
+                     uint8_t *picture, size_t picture_len, int64_t *work, size_t work_len);
 
 /* Haze: the hazy frame that a clean one gives under a light at the transmissions of a map. Checks 1, 3, 4, 5, 8. */
-uint8_t haze_add(uint64_t w, uint64_t h, uint8_t red, uint8_t green, uint8_t blue, const uint8_t *clean, size_t clean_len,
+uint8_t haze_add(uint64_t w, uint64_t h, const struct haze_rgb *light, const uint8_t *clean, size_t clean_len,
                  const uint16_t *map, size_t map_len, uint8_t *hazy, size_t hazy_len);
 
 /* Band figure: of the rows from..to of a map, the last left out, the mean transmission goes to *mean and the least to *least. Each is one division of two

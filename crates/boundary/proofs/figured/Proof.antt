@@ -5,12 +5,6 @@ use Rattle.rules.specs.Promise.{bandSaid}
 use Rattle.boundary.proofs.figured.Statement.{statement}
 use Rattle.boundary.proofs.figured.Tie as tie
 
-enum-known-band : tie.Need-enum-known-band
-enum-known-band c = search needs
-
-enum-known-band-2 : tie.Need-enum-known-band-2
-enum-known-band-2 c = search needs
-
 returns : tie.Need-returns
 returns c = let e = c .before .band .given .1 in (sym (ap bandSaid e), rw e)
 
@@ -18,4 +12,4 @@ returns-2 : tie.Need-returns-2
 returns-2 c = let e = c .before .band2 .given .1 in (sym (ap bandSaid e), rw e)
 
 pub figured-spec : {M : Type 1} → statement M
-figured-spec = tie.close (tie.spec enum-known-band enum-known-band-2 returns returns-2)
+figured-spec = tie.close (tie.spec (λ c. search needs) (λ c. search needs) returns returns-2)

@@ -4,15 +4,6 @@ use Rattle.haze_files_c.proofs.netpbm.haze_pnm_header.Statement.{statem
 use Rattle.haze_files_c.proofs.netpbm.haze_pnm_header.Tie as tie
 use Rattle.haze_files_c.proofs.Told.{header-read, header-refused}
 
-header-requires : tie.Need-header-requires
-header-requires c κs = tt
-
-enum-known-head : tie.Need-enum-known-head
-enum-known-head c = search needs
-
-enum-told : tie.Need-enum-told
-enum-told c = search needs
-
 returns : tie.Need-returns
 returns c = header-read _ _ (c .before .before .before .header .ensures) (c .before .head .given .1)
 
@@ -20,4 +11,4 @@ returns-2 : tie.Need-returns-2
 returns-2 c = header-refused _ _ (c .before .before .header .ensures) (c .enum-told .given .1)
 
 pub haze-pnm-header-spec : {M : Type 1} → statement M
-haze-pnm-header-spec = tie.close (tie.spec header-requires enum-known-head enum-told returns returns-2)
+haze-pnm-header-spec = tie.close (tie.spec (λ c κs. tt) (λ c. search needs) (λ c. search needs) returns returns-2)

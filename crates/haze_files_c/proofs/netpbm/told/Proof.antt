@@ -5,12 +5,6 @@ use Rattle.ppm.specs.Promise.{takenSaid}
 use Rattle.haze_files_c.proofs.netpbm.told.Statement.{statement}
 use Rattle.haze_files_c.proofs.netpbm.told.Tie as tie
 
-enum-known-taken : tie.Need-enum-known-taken
-enum-known-taken c = search needs
-
-enum-known-taken-2 : tie.Need-enum-known-taken-2
-enum-known-taken-2 c = search needs
-
 returns : tie.Need-returns
 returns c = let e = c .before .taken .given .1 in (sym (ap takenSaid e), rw e)
 
@@ -18,4 +12,4 @@ returns-2 : tie.Need-returns-2
 returns-2 c = let e = c .before .taken2 .given .1 in (sym (ap takenSaid e), rw e)
 
 pub told-spec : {M : Type 1} → statement M
-told-spec = tie.close (tie.spec enum-known-taken enum-known-taken-2 returns returns-2)
+told-spec = tie.close (tie.spec (λ c. search needs) (λ c. search needs) returns returns-2)
