@@ -4,6 +4,7 @@ pub mod Fold
 pub mod Front
 pub mod Buffers
 pub mod Near
+pub mod Pixels
 pub mod Box
 pub mod Integers
 pub mod Nearest

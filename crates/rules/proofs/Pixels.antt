@@ -1,0 +1,100 @@
+-- What a window is. The window of radius q about (y, x) has each pixel of the frame at most q rows and q columns away once (`pixel-once`) and no
+-- other (`pixel-none`), and its values are those of its pixels, in the same order (`window-values`). So its size is the number of its pixels.
+-- Assumes nothing.
+use mathlib.Core.Path.{_≡_, refl, sym, ap, _∙_}
+use mathlib.Core.Bool.{Bool, true, false, cond, _&&_}
+use mathlib.Core.List.{List, map, foldr}
+use Prim.Native.Nat.{ℕ, zero, suc, _+_, _≤_, _<_}
+use native.Mathlib.Omega.{arith}
+use native.Mathlib.Decide.{decLe}
+use lib.Dec.{eqb}
+use borrow.Author.Tests.{eqb-true, eq-eqb, ne-eqb}
+use Rattle.rules.specs.Shape.{Shape}
+use Rattle.rules.specs.Window.{Plane, low, many, square, window}
+use Rattle.rules.specs.Light.{count}
+use Rattle.rules.specs.Fold.{Σ}
+use Rattle.rules.proofs.Local.{Within}
+use Rattle.rules.proofs.Near.{apart}
+use Rattle.rules.proofs.Fold.{fold-map, map-square, square-fold, window-square}
+
+-- the plane that has the row and the column at each row and column
+abbrev pub spot : Plane (ℕ × ℕ)
+spot v u = (v, u)
+
+abbrev pub same : ℕ → ℕ → ℕ × ℕ → Bool
+same v u i = eqb v (i .0) && eqb u (i .1)
+
+-- how often (v, u) stands in a list
+abbrev pub times : ℕ → ℕ → List (ℕ × ℕ) → ℕ
+times v u l = count (same v u) l
+
+-- ---- sums of values that are 0, and that are 0 but at v
+
+sum-none : (a n : ℕ) (f : ℕ → ℕ) → ((i : ℕ) → a ≤ i → i < a + n → f i ≡ 0) → Σ _+_ 0 a n f ≡ 0
+sum-none a zero f h = refl
+sum-none a (suc n) f h =
+    omega (arith, h a (omega arith) (omega arith), sum-none (suc a) n f (λ i l m. h i (omega arith) (omega arith)))
+
+sum-one : (a n : ℕ) (f : ℕ → ℕ) (v : ℕ) → a ≤ v → v < a + n → ((i : ℕ) → (i ≡ v → ⊥) → f i ≡ 0) → Σ _+_ 0 a n f ≡ f v
+sum-one a zero f v l m h = absurd (let z : 1 ≤ 0 = omega arith in omega arith)
+sum-one a (suc n) f v l m h = go (decLe v a) (sum-one (suc a) n f v)
+  where
+    go : Dec (v ≤ a) → (suc a ≤ v → v < suc a + n → ((i : ℕ) → (i ≡ v → ⊥) → f i ≡ 0) → Σ _+_ 0 (suc a) n f ≡ f v) → f a + Σ _+_ 0 (suc a) n f ≡ f v
+    go (yes e) ih =
+        let s : a ≡ v = omega arith in
+        omega (arith, ap f s, sum-none (suc a) n f (λ i b c. h i (λ t. omega arith)))
+    go (no e) ih = omega (arith, h a (λ t. omega arith), ih (omega arith) (omega arith) h)
+
+-- ---- the pixels of a window
+
+module _ (z : Shape) (q y x v u : ℕ) where
+  one : ℕ → ℕ → ℕ
+  one i j = cond (same v u (i, j)) 1 0
+
+  by-rows : times v u (window z q spot y x) ≡ Σ _+_ 0 (low q y) (many (z .h) q y) (λ i. Σ _+_ 0 (low q x) (many (z .w) q x) (λ j. one i j))
+  unfolding one
+  by-rows =
+      let g : ℕ × ℕ → ℕ = λ i. cond (same v u i) 1 0 in
+      ap (times v u) (window-square z q spot y x)
+      ∙ fold-map _+_ 0 g (square (z .w) (z .h) q spot y x)
+      ∙ ap (foldr _+_ 0) (map-square g (z .w) (z .h) q spot y x)
+      ∙ square-fold _+_ 0 (λ a b c. omega arith) (λ a b. omega arith) refl (z .w) (z .h) q (λ i j. g (i, j)) y x
+
+  pub pixel-once : Within z q y x v u → times v u (window z q spot y x) ≡ 1
+  unfolding one
+  pixel-once w =
+      by-rows
+      ∙ sum-one (low q y) (many (z .h) q y) _ v (omega arith) (omega arith)
+      (λ i n. sum-none (low q x) (many (z .w) q x) (λ j. one i j) (λ j _ _. rw (ne-eqb v i (λ t. n (sym t)))))
+      ∙ sum-one (low q x) (many (z .w) q x) (λ j. one v j) u (omega arith) (omega arith) (λ j n. rw (eq-eqb v v refl, ne-eqb u j (λ t. n (sym t))))
+      ∙ rw (eq-eqb v v refl, eq-eqb u u refl)
+
+  pub pixel-none : (Within z q y x v u → ⊥) → times v u (window z q spot y x) ≡ 0
+  unfolding one
+  pixel-none h =
+      by-rows
+      ∙ sum-none (low q y) (many (z .h) q y) _ (λ i a b. sum-none (low q x) (many (z .w) q x) (λ j. one i j) (λ j c d. go i j a b c d (same v u (i, j)) refl))
+    where
+      go : (i j : ℕ) → low q y ≤ i → i < low q y + many (z .h) q y → low q x ≤ j → j < low q x + many (z .w) q x → (b : Bool) → same v u (i, j) ≡ b → _≡_ {A = ℕ} (cond b 1 0) 0
+      go i j a b c d false e = refl
+      go i j a b c d true e =
+          let t = apart (eqb v i) (eqb u j) e in
+          let s : v ≡ i = eqb-true v i (t .0) in
+          let r : u ≡ j = eqb-true u j (t .1) in
+          absurd
+          (h
+          (record {
+            row = omega arith;
+            column = omega arith;
+            above = omega arith;
+            below = omega arith;
+            left = omega arith;
+            right = omega arith;
+          }))
+
+-- the values of a window are those of its pixels, in the same order
+pub window-values : {A : Type 0} (z : Shape) (q : ℕ) (f : Plane A) (y x : ℕ) → window z q f y x ≡ map (λ (i : ℕ × ℕ). f (i .0) (i .1)) (window z q spot y x)
+window-values z q f y x =
+    window-square z q f y x
+    ∙ sym (map-square (λ (i : ℕ × ℕ). f (i .0) (i .1)) (z .w) (z .h) q spot y x)
+    ∙ ap (map (λ (i : ℕ × ℕ). f (i .0) (i .1))) (sym (window-square z q spot y x))
