@@ -9,12 +9,14 @@ pub mod Box
 pub mod Integers
 pub mod Nearest
 pub mod Recover
+pub mod Cleared
 pub mod Roundtrip
 pub mod Spread
 pub mod Rank
 pub mod Good
 pub mod Exactly
 pub mod Answers
+pub mod Wipe
 pub mod Unique
 pub mod Run
 pub mod Frames

@@ -1,0 +1,52 @@
+-- What T is in a clearing: the larger of map entry and t0. It is at least both and one of them (`Larger`), there is one such number (`larger-one`), and
+-- each cleared pixel is the recovery at it: of the rule (`cleared-at`), and of the buffers that Clear leaves (`clear-at`). Assumes nothing.
+use mathlib.Core.Path.{_≡_, refl, _∙_}
+use mathlib.Core.Logic.{_⊎_, inl, inr, ⊎-elim}
+use mathlib.Core.List.{List}
+use Prim.Native.Nat.{ℕ, _≤_, _<_, max}
+use native.Mathlib.Omega.{arith}
+use native.Mathlib.Decide.{decLe}
+use Rattle.rules.specs.Shape.{Shape}
+use Rattle.rules.specs.declared.Settings.{Settings}
+use Rattle.rules.specs.declared.Rgb.{Rgb}
+use Rattle.rules.specs.Window.{Plane}
+use Rattle.rules.specs.Transmission.{refined}
+use Rattle.rules.specs.Picture.{recover3, cleared}
+use Rattle.rules.specs.Setup.{Setup, shape}
+use Rattle.rules.specs.Buffers.{pixels, values, clear}
+use Rattle.rules.proofs.Buffers.{values-entries, pixels-bytes}
+
+-- t is the larger of m and n
+pub record Larger (m n t : ℕ) : Type 0 where
+  pub first : m ≤ t
+  pub second : n ≤ t
+  pub one : (t ≡ m) ⊎ (t ≡ n)
+
+pub larger-one : (m n t t′ : ℕ) → Larger m n t → Larger m n t′ → t ≡ t′
+larger-one m n t t′ a b = ⊎-elim (λ e. ⊎-elim (λ f. omega arith) (λ f. omega arith) (b .one)) (λ e. ⊎-elim (λ f. omega arith) (λ f. omega arith) (b .one)) (a .one)
+
+larger-max : (m n : ℕ) → Larger m n (max m n)
+larger-max m n = record { first = omega arith; second = omega arith; one = go (decLe m n) }
+  where
+    go : Dec (m ≤ n) → (max m n ≡ m) ⊎ (max m n ≡ n)
+    go (yes h) = inr (omega arith)
+    go (no h) = inl (omega arith)
+
+-- there is a T, so by `larger-one` one alone, and the cleared pixel is the recovery at it
+pub cleared-at : (z : Shape) (k : Settings) (a : Rgb) (f : Plane Rgb) (y x : ℕ)
+    → (t : ℕ) × Larger (refined z k a f y x) (k .t0) t × (cleared z k a f y x ≡ recover3 a (f y x) t)
+unfolding cleared
+cleared-at z k a f y x = (max (refined z k a f y x) (k .t0), larger-max (refined z k a f y x) (k .t0), refl)
+
+-- the same of the map and the picture that Clear leaves: the map's own entry, and the frame's own pixel
+pub clear-at : (p : Setup) (frame : List ℕ) (y x : ℕ)
+    → y < shape p .h
+    → x < shape p .w
+    → (t : ℕ)
+    × Larger (values (shape p) (clear p frame .map) y x) (p .settings .t0) t
+    × (pixels (shape p) (clear p frame .picture) y x ≡ recover3 (p .light) (pixels (shape p) frame y x) t)
+unfolding clear
+clear-at p frame y x hy hx =
+    let z = shape p in
+    let c = cleared-at z (p .settings) (p .light) (pixels z frame) y x in
+    (c .0, rw (values-entries z _ y x hy hx) (c .1), pixels-bytes z _ y x hy hx ∙ c .2)

@@ -1,0 +1,85 @@
+-- The work area after an accepted call: 0 in its first 8·(W+1)·(H+1) entries, the rest untouched, its length kept. Of the rules (`wiped-is`), and of
+-- each call that is lent one and keeps its promise (`lights-wiped`, `clears-wiped`, `replaces-wiped`). Assumes nothing.
+use mathlib.Core.Path.{_≡_, sym, ap, _∙_}
+use mathlib.Core.Bool.{false, _||_}
+use mathlib.Core.List.{List, _++_}
+use Prim.Native.Nat.{ℕ, _+_, _-_, _*_, _≤_, _<_}
+use native.Mathlib.Omega.{arith}
+use lib.ListN.{length, getD, drop, replicate, length-append, length-drop, length-replicate, getD-replicate, List·getD-append}
+use lib.Seq.{getD-append-add, getD-drop}
+use lib.IntN.{ℤ, pos}
+use Rattle.rules.specs.Shape.{Shape, described, room}
+use Rattle.rules.specs.declared.Size.{Size}
+use Rattle.rules.specs.declared.Settings.{Settings}
+use Rattle.rules.specs.declared.Rect.{Rect}
+use Rattle.rules.specs.declared.Answer.{Answer}
+use Rattle.rules.specs.declared.Answer.the-variants.{Done}
+use Rattle.rules.specs.declared.Found.{Found}
+use Rattle.rules.specs.Setup.{Setup, shape}
+use Rattle.rules.specs.Refusals.{badFrame, badMap, badWork, refuseLight}
+use Rattle.rules.specs.Promise.{wiped, Lent, foundSaid, noClear, noReplace, afterClear, afterReplace, Lights, Clears, Replaces}
+use Rattle.rules.proofs.Good.{neither, work-good}
+use Rattle.rules.proofs.Exactly.{light-exact, clear-exact, replace-exact}
+use Rattle.rules.proofs.Answers.{said-found, done-free}
+
+-- work is the area before, work′ afterwards; d stands for what is read past the end
+pub record Wiped (w h : ℕ) (work work′ : List ℤ) : Type 0 where
+  pub front : (i : ℕ) (d : ℤ) → i < 8 * ((w + 1) * (h + 1)) → getD work′ i d ≡ pos 0
+  pub rest : (i : ℕ) (d : ℤ) → 8 * ((w + 1) * (h + 1)) ≤ i → getD work′ i d ≡ getD work i d
+  pub same : length work′ ≡ length work
+
+-- n zeros, then the list from n on
+module _ (n : ℕ) (l : List ℤ) where
+  abbrev zeros : List ℤ
+  zeros = replicate n (pos 0) ++ drop n l
+
+  zeros-front : (i : ℕ) (d : ℤ) → i < n → getD zeros i d ≡ pos 0
+  zeros-front i d h =
+      let j : i < length (replicate n (pos 0)) = rw (length-replicate n (pos 0)) h in
+      List·getD-append (replicate n (pos 0)) (drop n l) d i j ∙ getD-replicate n i (pos 0) d h
+
+  zeros-rest : (i : ℕ) (d : ℤ) → n ≤ i → getD zeros i d ≡ getD l i d
+  zeros-rest i d h =
+      let e : i ≡ length (replicate n (pos 0)) + (i - n) = omega (arith, length-replicate n (pos 0)) in
+      let s : n + (i - n) ≡ i = omega arith in
+      ap (λ (j : ℕ). getD zeros j d) e
+      ∙ getD-append-add (replicate n (pos 0)) (drop n l) (i - n) d
+      ∙ getD-drop n l (i - n) d
+      ∙ ap (λ (j : ℕ). getD l j d) s
+
+  zeros-length : n ≤ length l → length zeros ≡ length l
+  zeros-length h = length-append (replicate n (pos 0)) (drop n l) ∙ omega (arith, length-replicate n (pos 0), length-drop n l)
+
+pub wiped-is : (z : Shape) (work : List ℤ) → 8 * ((z .w + 1) * (z .h + 1)) ≤ length work → Wiped (z .w) (z .h) work (wiped z work)
+unfolding wiped
+wiped-is z work h =
+    let n = 8 * ((z .w + 1) * (z .h + 1)) in
+    record { front = zeros-front n work; rest = zeros-rest n work; same = zeros-length n work h }
+
+-- ---- of the calls
+
+pub lights-wiped : (z : Size) (k : Settings) (frame : List ℕ) (work work′ : List ℤ) (r : Found) → Lights z k frame work r work′ → foundSaid r ≡ 0 → Wiped (z .w) (z .h) work work′
+lights-wiped z k frame work work′ r q e =
+    let n = refuseLight z k (length frame) (length work) in
+    let free : n ≡ 0 = sym (said-found n _) ∙ ap foundSaid (sym (q .answer)) ∙ e in
+    let left : work′ ≡ wiped (described z) work = rw free at (q .after) in
+    rw left (wiped-is (described z) work (work-good z (length work) (light-exact z k (length frame) (length work) .free free .1 .1 .1 .0)))
+
+module _ (p : Setup) where
+  -- test 4 has the work area last
+  roomy : (l : Lent) → (badFrame (p .size) (length (l .picture)) || badMap (p .size) (length (l .map)) || badWork (p .size) (length (l .work))) ≡ false → room (shape p) ≤ length (l .work)
+  roomy l e =
+      work-good (p .size) (length (l .work))
+      (neither (badFrame (p .size) (length (l .picture)) || badMap (p .size) (length (l .map))) (badWork (p .size) (length (l .work))) e .1)
+
+  pub clears-wiped : (l m : Lent) (r : Answer) → Clears p l r m → r ≡ Done → Wiped (p .size .w) (p .size .h) (l .work) (m .work)
+  clears-wiped l m r q e =
+      let free : noClear p l ≡ 0 = done-free (noClear p l) (sym (q .answer) ∙ e) in
+      let left : m ≡ afterClear p l = rw free at (q .after) in
+      rw left (wiped-is (shape p) (l .work) (roomy l (clear-exact p l .free free .1 .1 .1 .0)))
+
+  pub replaces-wiped : (c : Rect) (new : List ℕ) (l m : Lent) (r : Answer) → Replaces p c new l r m → r ≡ Done → Wiped (p .size .w) (p .size .h) (l .work) (m .work)
+  replaces-wiped c new l m r q e =
+      let free : noReplace p c new l ≡ 0 = done-free (noReplace p c new l) (sym (q .answer) ∙ e) in
+      let left : m ≡ afterReplace p c new l = rw free at (q .after) in
+      rw left (wiped-is (shape p) (l .work) (roomy l (replace-exact p c new l .free free .1 .1 .1 .0)))
