@@ -1,8 +1,7 @@
 -- The light by counts and a cutoff is the light of the rules. Assumes nothing.
 use mathlib.Core.Path.{_≡_, sym, ap, ap₂, _∙_}
 use mathlib.Core.List.{List}
-use Prim.Native.Nat.{ℕ, _*_, _/_, _≤_, _<_}
-use native.Mathlib.Nat.{mul-le-mul-left, div-le-of-le-mul}
+use Prim.Native.Nat.{ℕ, _*_, _<_}
 use native.Mathlib.Omega.{arith}
 use lib.Dec.{ltb}
 use lib.ListN.{length}
@@ -10,7 +9,7 @@ use lib.IntN.{ℤ}
 use Rattle.rules.specs.Shape.{Shape, described}
 use Rattle.rules.specs.declared.Size.{Size}
 use Rattle.rules.specs.declared.Settings.{Settings}
-use Rattle.rules.specs.Light.{at, dark, share, before, rank, candidates, keep, guide, brightest, lifted, light}
+use Rattle.rules.specs.Light.{at, dark, m, before, rank, candidates, keep, guide, brightest, lifted, light}
 use Rattle.rules.specs.Buffers.{pixelAt, pixels}
 use Rattle.rules.proofs.Buffers.{at-pixels}
 use Rattle.light.specs.declared.Cut.{Cut}
@@ -19,19 +18,13 @@ use Rattle.light.proofs.Positions.{count-cong, keep-cong}
 use Rattle.light.proofs.Counts.{by-counts}
 use Rattle.light.proofs.Areas.{value-dark, levels}
 
-pub share-le : (z : Shape) (k : Settings) → 0 < z .w * z .h → k .share ≤ 1000 → share z k ≤ z .w * z .h
-share-le z k h l =
-    let n : ℕ = z .w * z .h in
-    let q : n * k .share / 1000 ≤ n = div-le-of-le-mul 1000 (omega (arith, mul-le-mul-left n l)) in
-    omega arith
-
 -- dark values that agree in the frame rank its pixels alike
 rank-cong : (z : Shape) (d e : ℕ → ℕ) → ((o : ℕ) → o < z .w * z .h → d o ≡ e o) → (p : ℕ) → p < z .w * z .h → rank z d p ≡ rank z e p
 unfolding rank
 rank-cong z d e h p l = count-cong (λ o. before d o p) (λ o. before e o p) 0 (z .w * z .h) (λ o a b. rw (h p l, h o (omega arith)))
 
 module _ (z : Size) (k : Settings) (frame : List ℕ) (w v : List ℤ) (d : DarkPlane z k frame w v) (l : List ℕ) (c : Cut)
-    (e : length l ≡ 256) (t : Tallied (value v) (z .w * z .h) l) (cut : CutAt l (share (described z) k) c) where
+    (e : length l ≡ 256) (t : Tallied (value v) (z .w * z .h) l) (cut : CutAt l (m (described z) k) c) where
   -- the candidates are those that the cutoff lets in
   let-in : candidates (described z) k (pixels (described z) frame) ≡ keep (admitted (value v) c) (upto (z .w * z .h))
   unfolding candidates
@@ -39,8 +32,8 @@ module _ (z : Size) (k : Settings) (frame : List ℕ) (w v : List ℤ) (d : Dark
       keep-cong _ (admitted (value v) c) 0 (z .w * z .h)
       (λ p a b.
       let h : p < z .w * z .h = omega arith in
-      ap (λ (r : ℕ). ltb r (share (described z) k)) (sym (rank-cong (described z) (value v) (at (described z) (dark (described z) (k .s) (pixels (described z) frame))) (value-dark z k frame w v d) p h))
-      ∙ by-counts (described z) (value v) l (share (described z) k) c e (λ o i. levels z k frame w v d o i .1) t cut p h)
+      ap (λ (r : ℕ). ltb r (m (described z) k)) (sym (rank-cong (described z) (value v) (at (described z) (dark (described z) (k .s) (pixels (described z) frame))) (value-dark z k frame w v d) p h))
+      ∙ by-counts (described z) (value v) l (m (described z) k) c e (λ o i. levels z k frame w v d o i .1) t cut p h)
 
   -- the pixel of the position that is chosen gives the light
   pub light-is : (r : ℕ) → r ≡ brightest (λ p. guide (pixelAt frame p)) (keep (admitted (value v) c) (upto (z .w * z .h)))

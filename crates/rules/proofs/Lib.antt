@@ -13,6 +13,8 @@ pub mod Cleared
 pub mod Roundtrip
 pub mod Spread
 pub mod Rank
+pub mod Order
+pub mod Candidates
 pub mod Good
 pub mod Exactly
 pub mod Answers

@@ -20,7 +20,7 @@ total-add : {A : Type 0} (f g k : A → ℕ) (l : List A) → ((o : A) → k o �
 total-add f g k [] h = refl
 total-add f g k (o ∷ l) h = let i = total-add f g k l h in let j = h o in omega arith
 
-one-le : (a b : Bool) → (a ≡ true → b ≡ true) → cond {A = ℕ} a 1 0 ≤ cond b 1 0
+pub one-le : (a b : Bool) → (a ≡ true → b ≡ true) → cond {A = ℕ} a 1 0 ≤ cond b 1 0
 one-le true b h = rw (h refl) (omega arith)
 one-le false b h = omega arith
 

@@ -11,7 +11,7 @@ use Rattle.rules.specs.declared.Settings.{Settings}
 use Rattle.rules.specs.declared.Rgb.{Rgb}
 use Rattle.rules.specs.declared.Figure.{Figure}
 use Rattle.rules.specs.Window.{from, window}
-use Rattle.rules.specs.Light.{share, light}
+use Rattle.rules.specs.Light.{m, light}
 use Rattle.rules.specs.Transmission.{ratio, fit}
 use Rattle.rules.specs.Picture.{recover, haze, figure}
 use Rattle.rules.specs.Setup.{handed}
@@ -141,7 +141,7 @@ table =
     ∷ record { no = 6; got = nats (recover 100 101 3000 ∷ recover 100 99 3000 ∷ []); want = nats (103 ∷ 97 ∷ []) }
     ∷ record {
       no = 7;
-      got = nats (share (shape 999 1) (radii 0 0) ∷ share (shape 1000 1) (radii 0 0) ∷ share (shape 1000 2) (radii 0 0) ∷ []);
+      got = nats (m (shape 999 1) (radii 0 0) ∷ m (shape 1000 1) (radii 0 0) ∷ m (shape 1000 2) (radii 0 0) ∷ []);
       want = nats (1 ∷ 1 ∷ 2 ∷ []);
     }
     ∷ record { no = 8; got = nats (haze 255 0 5000 ∷ []); want = nats (128 ∷ []) }

@@ -26,8 +26,8 @@ at z f p = f (p / z .w) (p % z .w)
 
 -- ---- 2. candidates: m of them, by greater dark value, then by lower position
 
-abbrev pub share : Shape → Settings → ℕ
-share z k = max 1 (z .w * z .h * k .share / 1000)
+abbrev pub m : Shape → Settings → ℕ
+m z k = max 1 (z .w * z .h * k .share / 1000)
 
 -- o goes before p; d is the dark value by position
 abbrev pub before : (ℕ → ℕ) → ℕ → ℕ → Bool
@@ -45,7 +45,7 @@ unfoldable pub rank : Shape → (ℕ → ℕ) → ℕ → ℕ
 rank z d p = count (λ o. before d o p) (places z)
 
 unfoldable pub candidates : Shape → Settings → Plane Rgb → List ℕ
-candidates z k f = keep (λ p. ltb (rank z (at z (dark z (k .s) f)) p) (share z k)) (places z)
+candidates z k f = keep (λ p. ltb (rank z (at z (dark z (k .s) f)) p) (m z k)) (places z)
 
 -- ---- 3. the candidate with the greatest R+G+B, the first on a tie; a channel of 0 becomes 1
 

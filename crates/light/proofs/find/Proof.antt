@@ -6,13 +6,14 @@ use native.Mathlib.Omega.{arith}
 use lib.ListN.{length, getD-replicate}
 use borrow.Author.Needs.{needs}
 use Rattle.rules.specs.Shape.{described, room}
-use Rattle.rules.specs.Light.{share}
+use Rattle.rules.specs.Light.{m}
 use Rattle.rules.specs.Promise.{wiped}
+use Rattle.rules.proofs.Candidates.{m-le}
 use Rattle.planes.proofs.Wiped.{wiped-same}
 use Rattle.light.specs.Steps.{ByteEntries, CutAt}
 use Rattle.light.proofs.Counts.{atLeast-all}
 use Rattle.light.proofs.Areas.{roomy, levels}
-use Rattle.light.proofs.Answer.{share-le, light-is}
+use Rattle.light.proofs.Answer.{light-is}
 use Rattle.light.proofs.find.Statement.{statement}
 use Rattle.light.proofs.find.Tie as tie
 
@@ -53,10 +54,10 @@ cutoff-requires c κs =
     let s = b .before .before .before .before in
     let z = s .args .z in
     let e = c .before .before .before .before .before .candidates .ensures in
-    let m = share-le (described z) (s .args .k) (mul-pos (s .pre .size .across) (s .pre .size .down)) (s .pre .settings .share-most) in
+    let most = m-le (described z) (s .args .k) (mul-pos (s .pre .size .across) (s .pre .size .down)) (s .pre .settings .share-most) in
     let t = c .before .before .tally in
     let r = atLeast-all _ (z .w * z .h) (t .last .1 .1 .0) (t .kept .1 .1 .0) (λ o h. entries b o h .1) (t .ensures) in
-    (t .kept .1 .1 .0, omega (arith, e), omega (arith, e, m, s .pre .size .area), omega (arith, e, m, r))
+    (t .kept .1 .1 .0, omega (arith, e), omega (arith, e, most, s .pre .size .area), omega (arith, e, most, r))
 
 choose-requires : tie.Need-choose-requires
 choose-requires c κs =
@@ -93,7 +94,7 @@ returns c =
     let d = b .before .darks in
     let t = c .before .before .before .before .before .before .before .before .before .tally in
     let k = c .before .before .before .before .before .before .cutoff in
-    let cut : CutAt (t .last .1 .1 .0) (share (described (a .z)) (a .k)) (k .result) =
+    let cut : CutAt (t .last .1 .1 .0) (m (described (a .z)) (a .k)) (k .result) =
     rw (c .before .before .before .before .before .before .before .before .before .before .before .before .candidates .ensures) at (k .ensures)
     in
     record {
