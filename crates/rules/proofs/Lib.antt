@@ -15,6 +15,7 @@ pub mod Spread
 pub mod Rank
 pub mod Order
 pub mod Candidates
+pub mod Chosen
 pub mod Good
 pub mod Exactly
 pub mod Answers

@@ -25,7 +25,7 @@ abbrev pub Rising : ℕ → List ℕ → Type 0
 Rising a [] = Unit {0}
 Rising a (p ∷ l) = (a ≤ p) × Rising (suc p) l
 
-rising-less : (a b : ℕ) (l : List ℕ) → a ≤ b → Rising b l → Rising a l
+pub rising-less : (a b : ℕ) (l : List ℕ) → a ≤ b → Rising b l → Rising a l
 rising-less a b [] h r = tt
 rising-less a b (p ∷ l) h r = (let j = r .0 in omega arith, r .1)
 
