@@ -22,5 +22,6 @@ pub mod Answers
 pub mod Wipe
 pub mod Unique
 pub mod Run
+pub mod Pasted
 pub mod Frames
 pub mod Cases

@@ -4,7 +4,7 @@
 use mathlib.Core.Path.{_≡_, refl, sym, ap, _∙_, subst}
 use mathlib.Core.Bool.{Bool, true, false, cond}
 use mathlib.Core.List.{List, [], _∷_}
-use Prim.Native.Nat.{ℕ, zero, suc, _+_, _<_}
+use Prim.Native.Nat.{ℕ, zero, suc, _+_, _*_, _<_}
 use Rattle.rules.specs.Shape.{Shape}
 use Rattle.rules.specs.declared.Settings.{Settings}
 use Rattle.rules.specs.declared.Rgb.{Rgb}
@@ -16,7 +16,7 @@ use Rattle.rules.specs.Buffers.{pixels, values, State, mapOf, pictureOf,
 use Rattle.rules.specs.Promise.{Lent, state, lent, unless, wiped, noClear, noReplace, Replaces}
 use Rattle.rules.specs.Run.{Call, accepted, step, run, Fresh, Ran, cleared as after-clear, replaced as after-replace}
 use Rattle.rules.proofs.Local.{Agree, Local, refined-local, cleared-local}
-use Rattle.rules.proofs.Near.{far-sees}
+use Rattle.rules.proofs.Near.{Far, far-no, far-sees}
 use Rattle.rules.proofs.Buffers.{values-entries, pixels-bytes, entries-cong, bytes-cong}
 use Rattle.rules.proofs.Answers.{done-free}
 
@@ -91,22 +91,22 @@ module _ (p : Setup) where
 
 -- ---- what a replacement leaves alone
 
--- the frame outside the rectangle; map and picture farther than the reach from it, in rows or in columns
-pub record Alone (z : Shape) (q : ℕ) (c : Rect) (s m : State) : Type 0 where
-  pub frame : (y x : ℕ) → y < z .h → x < z .w → near 0 c y x ≡ false → pixels z (m .frame) y x ≡ pixels z (s .frame) y x
-  pub map : (y x : ℕ) → y < z .h → x < z .w → near q c y x ≡ false → values z (m .map) y x ≡ values z (s .map) y x
-  pub picture : (y x : ℕ) → y < z .h → x < z .w → near q c y x ≡ false → pixels z (m .picture) y x ≡ pixels z (s .picture) y x
+-- the frame outside the rectangle; map and picture farther than s + 2·r from it, in rows or in columns
+pub record Alone (z : Shape) (k : Settings) (c : Rect) (s m : State) : Type 0 where
+  pub frame : (y x : ℕ) → y < z .h → x < z .w → Far 0 c y x → pixels z (m .frame) y x ≡ pixels z (s .frame) y x
+  pub map : (y x : ℕ) → y < z .h → x < z .w → Far (k .s + 2 * k .r) c y x → values z (m .map) y x ≡ values z (s .map) y x
+  pub picture : (y x : ℕ) → y < z .h → x < z .w → Far (k .s + 2 * k .r) c y x → pixels z (m .picture) y x ≡ pixels z (s .picture) y x
 
 -- demand 3, second half: from any state
-pub replace-alone : (p : Setup) (c : Rect) (new : List ℕ) (s : State) → Alone (shape p) (reach (p .settings)) c s (replace p c new s)
+pub replace-alone : (p : Setup) (c : Rect) (new : List ℕ) (s : State) → Alone (shape p) (p .settings) c s (replace p c new s)
 unfolding replace
 replace-alone p c new s =
     let z = shape p in
-    let q = reach (p .settings) in
+    let q = p .settings .s + 2 * p .settings .r in
     record {
-      frame = λ y x hy hx e. pixels-bytes z _ y x hy hx ∙ patch-no (near 0 c) _ _ y x e;
-      map = λ y x hy hx e. values-entries z _ y x hy hx ∙ patch-no (near q c) _ _ y x e;
-      picture = λ y x hy hx e. pixels-bytes z _ y x hy hx ∙ patch-no (near q c) _ _ y x e;
+      frame = λ y x hy hx f. pixels-bytes z _ y x hy hx ∙ patch-no (near 0 c) _ _ y x (far-no 0 c y x f);
+      map = λ y x hy hx f. values-entries z _ y x hy hx ∙ patch-no (near q c) _ _ y x (far-no q c y x f);
+      picture = λ y x hy hx f. pixels-bytes z _ y x hy hx ∙ patch-no (near q c) _ _ y x (far-no q c y x f);
     }
 
 -- ---- demand 3 of the calls' own promises
@@ -128,7 +128,7 @@ module _ (p : Setup) where
       either-way (λ (n : Lent). Fresh p (state n)) (noReplace p c new (lent (state l) work)) _ (lent (state l) work) m (q .after)
       (fresh-replace p (state l) c new old) old
 
-  pub replaces-alone : (c : Rect) (new : List ℕ) (l m : Lent) (r : Answer) → Replaces p c new l r m → Alone (shape p) (reach (p .settings)) c (state l) (state m)
+  pub replaces-alone : (c : Rect) (new : List ℕ) (l m : Lent) (r : Answer) → Replaces p c new l r m → Alone (shape p) (p .settings) c (state l) (state m)
   replaces-alone c new l m r q =
-      either-way (λ (n : Lent). Alone (shape p) (reach (p .settings)) c (state l) (state n)) (noReplace p c new l) _ l m (q .after)
+      either-way (λ (n : Lent). Alone (shape p) (p .settings) c (state l) (state n)) (noReplace p c new l) _ l m (q .after)
       (replace-alone p c new (state l)) (record { frame = λ y x hy hx e. refl; map = λ y x hy hx e. refl; picture = λ y x hy hx e. refl })
