@@ -12,6 +12,7 @@ pub mod Recover
 pub mod Cleared
 pub mod Roundtrip
 pub mod Spread
+pub mod Dark
 pub mod Rank
 pub mod Order
 pub mod Candidates

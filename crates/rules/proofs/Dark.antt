@@ -1,0 +1,77 @@
+-- What a least value over a window is, and so what a dark value is. The least, with top to start from, is at most each value of the window
+-- (`least-le`), and no number up to top that is at most each of them is greater (`least-most`). The dark value is at most each byte of each channel
+-- at most s rows and s columns away, and the greatest byte that is (`dark-le`, `dark-most`). Assumes nothing.
+use mathlib.Core.Path.{_≡_, ap, _∙_}
+use Prim.Native.Nat.{ℕ, zero, suc, _+_, _≤_, _<_, min}
+use native.Mathlib.Omega.{arith}
+use native.Mathlib.Decide.{decLe}
+use Rattle.rules.specs.Shape.{Shape}
+use Rattle.rules.specs.declared.Rgb.{Rgb}
+use Rattle.rules.specs.Window.{Plane, low, many, window, least}
+use Rattle.rules.specs.Fold.{Σ}
+use Rattle.rules.specs.Light.{darkest, dark}
+use Rattle.rules.proofs.Local.{Within}
+use Rattle.rules.proofs.Fold.{window-square, least-square}
+
+-- ---- minima of a run of values
+
+run-le : (top a n : ℕ) (f : ℕ → ℕ) (v : ℕ) → a ≤ v → v < a + n → Σ min top a n f ≤ f v
+run-le top a zero f v l h = absurd (let z : 1 ≤ 0 = omega arith in omega arith)
+run-le top a (suc n) f v l h = go (decLe v a) (run-le top (suc a) n f v)
+  where
+    go : Dec (v ≤ a) → (suc a ≤ v → v < suc a + n → Σ min top (suc a) n f ≤ f v) → min (f a) (Σ min top (suc a) n f) ≤ f v
+    go (yes e) ih = let s : a ≡ v = omega arith in omega (arith, ap f s)
+    go (no e) ih = omega (arith, ih (omega arith) (omega arith))
+
+run-most : (top a n : ℕ) (f : ℕ → ℕ) (c : ℕ) → c ≤ top → ((i : ℕ) → a ≤ i → i < a + n → c ≤ f i) → c ≤ Σ min top a n f
+run-most top a zero f c t h = t
+run-most top a (suc n) f c t h =
+    omega (arith, h a (omega arith) (omega arith), run-most top (suc a) n f c t (λ i l m. h i (omega arith) (omega arith)))
+
+-- ---- over a window of any plane
+
+module _ (top : ℕ) (z : Shape) (q : ℕ) (f : Plane ℕ) (y x : ℕ) where
+  by-rows : least top (window z q f y x) ≡ Σ min top (low q y) (many (z .h) q y) (λ v. Σ min top (low q x) (many (z .w) q x) (λ u. f v u))
+  by-rows = ap (least top) (window-square z q f y x) ∙ least-square top (z .w) (z .h) q f y x
+
+  pub least-le : (v u : ℕ) → Within z q y x v u → least top (window z q f y x) ≤ f v u
+  least-le v u w =
+      let rows = run-le top (low q y) (many (z .h) q y) (λ v. Σ min top (low q x) (many (z .w) q x) (λ u. f v u)) v (omega arith) (omega arith) in
+      let columns = run-le top (low q x) (many (z .w) q x) (λ u. f v u) u (omega arith) (omega arith) in
+      rw by-rows (omega arith)
+
+  pub least-most : (c : ℕ) → c ≤ top → ((v u : ℕ) → Within z q y x v u → c ≤ f v u) → c ≤ least top (window z q f y x)
+  least-most c t h =
+      rw by-rows
+      (run-most top (low q y) (many (z .h) q y) _ c t
+      (λ v a b.
+      run-most top (low q x) (many (z .w) q x) (λ u. f v u) c t
+      (λ u d e.
+      h v u
+      (record {
+        row = omega arith;
+        column = omega arith;
+        above = omega arith;
+        below = omega arith;
+        left = omega arith;
+        right = omega arith;
+      }))))
+
+-- ---- dark values
+
+-- c is at most each channel of a pixel
+pub record Under (c : ℕ) (i : Rgb) : Type 0 where
+  pub red : c ≤ i .r
+  pub green : c ≤ i .g
+  pub blue : c ≤ i .b
+
+module _ (z : Shape) (s : ℕ) (f : Plane Rgb) (y x : ℕ) where
+  pub dark-le : (v u : ℕ) → Within z s y x v u → Under (dark z s f y x) (f v u)
+  unfolding dark
+  dark-le v u w =
+      let h = least-le 255 z s (λ v u. darkest (f v u)) y x v u w in
+      record { red = omega arith; green = omega arith; blue = omega arith }
+
+  pub dark-most : (c : ℕ) → c ≤ 255 → ((v u : ℕ) → Within z s y x v u → Under c (f v u)) → c ≤ dark z s f y x
+  unfolding dark
+  dark-most c t h = least-most 255 z s (λ v u. darkest (f v u)) y x c t (λ v u w. let b = h v u w in omega arith)
