@@ -13,6 +13,7 @@ pub mod Cleared
 pub mod Roundtrip
 pub mod Spread
 pub mod Dark
+pub mod Quotients
 pub mod Rank
 pub mod Order
 pub mod Candidates
