@@ -1,3 +1,2 @@
 -- The laws of the band figure.
-pub mod Quotient
 pub mod Laws

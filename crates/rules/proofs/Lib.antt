@@ -23,6 +23,7 @@ pub mod Exactly
 pub mod Answers
 pub mod Wipe
 pub mod Unique
+pub mod Doubles
 pub mod Run
 pub mod Pasted
 pub mod Frames

@@ -1,7 +1,7 @@
 -- `bands::divided` meets its contract. Assumes nothing.
 use mathlib.Core.Path.{refl}
 use Rattle.rules.specs.Picture.{quotient}
-use Rattle.bands.proofs.Quotient.{in-float}
+use Rattle.rules.proofs.Doubles.{in-float}
 use Rattle.bands.proofs.divided.Statement.{statement}
 use Rattle.bands.proofs.divided.Tie as tie
 
