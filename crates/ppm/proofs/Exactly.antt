@@ -7,6 +7,7 @@ use native.Mathlib.Omega.{arith}
 use Rattle.rules.specs.declared.Size.{Size}
 use Rattle.rules.specs.Refusals.{badFrame}
 use Rattle.rules.proofs.Exactly.{Exact, exact, joined-some}
+use Rattle.rules.proofs.Lowest.{Lowest, numbers, lowest}
 use Rattle.rules.proofs.Answers.{or-said}
 use Rattle.ppm.specs.declared.Taken.the-variants as taken
 use Rattle.ppm.specs.Promise.{size, testsSize, testsRead, testsWrite, refuseSize, refuseRead, refuseWrite, frameOr, takenSaid}
@@ -22,6 +23,18 @@ read-exact s lent = exact _ refl
 pub write-exact : (z : Size) (frame out : ℕ) → Exact (refuseWrite z frame out) (testsWrite z frame out)
 unfolding refuseWrite
 write-exact z frame out = exact _ refl
+
+-- ---- the order of the numbers: for a file that of request One, which does not ascend; for a file that is written the lowest number is given
+
+pub size-order : (s : List ℕ) → numbers (testsSize s) ≡ 11 ∷ 1 ∷ 12 ∷ 13 ∷ []
+size-order s = refl
+
+pub read-order : (s : List ℕ) (lent : ℕ) → numbers (testsRead s lent) ≡ 11 ∷ 1 ∷ 12 ∷ 13 ∷ 4 ∷ []
+read-order s lent = refl
+
+pub write-lowest : (z : Size) (frame out : ℕ) → Lowest (1 ∷ 3 ∷ 4 ∷ []) (refuseWrite z frame out) (testsWrite z frame out)
+unfolding refuseWrite
+write-lowest z frame out = lowest _ refl
 
 -- ---- an answer says its number
 

@@ -82,7 +82,7 @@ sum-le a zero f h = omega arith
 sum-le a (suc n) f h = omega (arith, h a, sum-le (suc a) n f h)
 
 -- v is the least of the values from a to b, the last left out: one of them, and at most each
-pub record Lowest (f : ℕ → ℕ) (a b v : ℕ) : Type 0 where
+pub record Smallest (f : ℕ → ℕ) (a b v : ℕ) : Type 0 where
   pub place : ℕ
   pub start : a ≤ place
   pub end : place < b
@@ -90,20 +90,20 @@ pub record Lowest (f : ℕ → ℕ) (a b v : ℕ) : Type 0 where
   pub most : (p : ℕ) → a ≤ p → p < b → v ≤ f p
 
 -- one more in front
-lower : (f : ℕ → ℕ) (a b v : ℕ) → a < b → Lowest f (suc a) b v → Lowest f a b (min (f a) v)
+lower : (f : ℕ → ℕ) (a b v : ℕ) → a < b → Smallest f (suc a) b v → Smallest f a b (min (f a) v)
 lower f a b v h rest = go (decLe (f a) v)
   where
     each : (p : ℕ) → a ≤ p → p < b → Dec (p ≤ a) → min (f a) v ≤ f p
     each p x y (yes l) = let e : p ≡ a = omega arith in rw e (omega arith)
     each p x y (no l) = omega (arith, rest .most p (omega arith) y)
 
-    go : Dec (f a ≤ v) → Lowest f a b (min (f a) v)
+    go : Dec (f a ≤ v) → Smallest f a b (min (f a) v)
     go (yes l) = record { place = a; start = omega arith; end = h; here = omega arith; most = λ p x y. each p x y (decLe p a) }
     go (no l) =
         let e : v ≡ min (f a) v = omega arith in
         record { place = rest .place; start = omega (arith, rest .start); end = rest .end; here = rest .here ∙ e; most = λ p x y. each p x y (decLe p a) }
 
-least-is : (f : ℕ → ℕ) (a n b : ℕ) → ((p : ℕ) → f p ≤ 10000) → 0 < n → b ≡ a + n → Lowest f a b (least 10000 (from a n f))
+least-is : (f : ℕ → ℕ) (a n b : ℕ) → ((p : ℕ) → f p ≤ 10000) → 0 < n → b ≡ a + n → Smallest f a b (least 10000 (from a n f))
 least-is f a zero b h k e = absurd (omega arith)
 least-is f a (suc zero) b h k e =
     record {
@@ -120,7 +120,7 @@ least-is f a (suc (suc n)) b h k e = lower f a b _ (omega arith) (least-is f (su
 pub record Figured (z : Size) (map : List ℕ) (start end : ℕ) (f : Figure) : Type 0 where
   pub mean : f .mean ≡ round binary64 false (Σ _+_ 0 (start * z .w) ((end - start) * z .w) (λ p. getD map p 0)) (10000 * ((end - start) * z .w))
   pub low : ℕ
-  pub lowest : Lowest (λ p. getD map p 0) (start * z .w) (end * z .w) low
+  pub smallest : Smallest (λ p. getD map p 0) (start * z .w) (end * z .w) low
   pub least : f .least ≡ round binary64 false low 10000
 
 module _ (map : List ℕ) (entry : (p : ℕ) → getD map p 0 ≤ 10000) (a n b : ℕ) (inside : b ≤ length map) (some : 0 < n) (sum : b ≡ a + n) (few : n ≤ 262144) where
@@ -129,7 +129,7 @@ module _ (map : List ℕ) (entry : (p : ℕ) → getD map p 0 ≤ 10000) (a n b 
       rw (part-is map a n (omega arith), sum-is a n (λ p. getD map p 0), from-length a n (λ p. getD map p 0))
       (exact-quotient _ (10000 * n) (omega (arith, sum-le a n (λ p. getD map p 0) entry)) (omega arith) (omega arith))
 
-  low-is : Lowest (λ p. getD map p 0) a b (least 10000 (from a n (λ p. getD map p 0)))
+  low-is : Smallest (λ p. getD map p 0) a b (least 10000 (from a n (λ p. getD map p 0)))
   low-is = least-is (λ p. getD map p 0) a n b entry some sum
 
   least-quotient : figureOf (take n (drop a map)) .least ≡ round binary64 false (least 10000 (from a n (λ p. getD map p 0))) 10000
@@ -156,7 +156,7 @@ figured-of z map start end h =
     record {
       mean = mean-is map entry a n b (omega arith) m (omega arith) (omega arith);
       low = _;
-      lowest = low-is map entry a n b (omega arith) m (omega arith) (omega arith);
+      smallest = low-is map entry a n b (omega arith) m (omega arith) (omega arith);
       least = least-quotient map entry a n b (omega arith) m (omega arith) (omega arith);
     }
 

@@ -20,6 +20,7 @@ pub mod Candidates
 pub mod Chosen
 pub mod Good
 pub mod Exactly
+pub mod Lowest
 pub mod Answers
 pub mod Wipe
 pub mod Unique
