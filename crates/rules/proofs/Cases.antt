@@ -6,10 +6,10 @@ use Rattle.rules.specs.Window.{square, window}
 use Rattle.rules.specs.Light.{dark, rank, candidates, light}
 use Rattle.rules.specs.Transmission.{coarse, sample, line, fit, refine, refined}
 use Rattle.rules.specs.Picture.{recover, recover3, cleared, haze3, quotient, figure}
-use Rattle.rules.specs.Buffers.{pixels, bytes, values, entries, hazed, clear}
+use Rattle.rules.specs.Buffers.{pixels, bytes, values, entries, near, patch, placed, hazed, clear, replace}
 use Rattle.rules.specs.Refusals.{badSize, badSettings, badFrame, badMap, badWork, badLight, badRect, badBand, badNew, badEntries, refuseLight, refuseClear, refuseReplace, refuseHaze, refuseBand}
 use Rattle.rules.specs.Cases.{Row, table}
 
 pub cases : map (λ (c : Row). c .got) table ≡ map (λ (c : Row). c .want) table
-unfolding table window square dark rank candidates light coarse sample line fit refine refined recover recover3 cleared haze3 quotient figure pixels bytes values entries hazed clear div ofInt toBits badSize badSettings badFrame badMap badWork badLight badRect badBand badNew badEntries refuseLight refuseClear refuseReplace refuseHaze refuseBand
+unfolding table window square dark rank candidates light coarse sample line fit refine refined recover recover3 cleared haze3 quotient figure pixels bytes values entries near patch placed hazed clear replace div ofInt toBits badSize badSettings badFrame badMap badWork badLight badRect badBand badNew badEntries refuseLight refuseClear refuseReplace refuseHaze refuseBand
 cases = refl

@@ -2,20 +2,21 @@
 -- The wanted values of our own rows are those of the independent second program. Assumes nothing.
 use Prim.Native.Nat.{ℕ, _+_, _*_, _%_}
 use mathlib.Core.List.{List, [], _∷_, _++_, map}
-use lib.ListN.{length}
+use lib.ListN.{length, replicate}
 use lib.IntN.{ℤ, pos, negℤ}
 use lib.Ieee.{binary64, toBits}
 use Rattle.rules.specs.Shape.{Shape}
 use Rattle.rules.specs.declared.Size.{Size}
 use Rattle.rules.specs.declared.Settings.{Settings}
 use Rattle.rules.specs.declared.Rgb.{Rgb}
+use Rattle.rules.specs.declared.Rect.{Rect}
 use Rattle.rules.specs.declared.Figure.{Figure}
 use Rattle.rules.specs.Window.{from, window}
-use Rattle.rules.specs.Light.{m, light}
-use Rattle.rules.specs.Transmission.{ratio, fit}
+use Rattle.rules.specs.Light.{at, m, light}
+use Rattle.rules.specs.Transmission.{ratio, fit, refined}
 use Rattle.rules.specs.Picture.{recover, haze, figure}
 use Rattle.rules.specs.Setup.{handed}
-use Rattle.rules.specs.Buffers.{pixels, clear, hazed}
+use Rattle.rules.specs.Buffers.{State, pixels, clear, replace, hazed}
 use Rattle.rules.specs.Refusals.{refuseLight, refuseClear, refuseReplace, refuseHaze, refuseBand}
 
 -- up to 11, `no` is the paper's case P`no`; from 12 on the rows are our own
@@ -85,6 +86,50 @@ field = from 0 36 (λ k. (k * 37 + 11) % 256)
 abbrev fieldMap : List ℕ
 fieldMap = 9443 ∷ 9340 ∷ 9305 ∷ 9260 ∷ 9338 ∷ 9352 ∷ 9225 ∷ 9262 ∷ 9272 ∷ 9305 ∷ 9227 ∷ 9181 ∷ []
 
+-- a frame without very dark pixels: its first n bytes
+abbrev broad : ℕ → List ℕ
+broad n = from 0 n (λ k. 60 + (k * 37 + 11) % 190)
+
+-- map entries at some positions, under a light
+abbrev mapAt : Shape → Settings → Rgb → List ℕ → List ℕ → List ℤ
+mapAt z k a frame l = nats (map (λ p. at z (refined z k a (pixels z frame)) p) l)
+
+-- a map of 2 by 3 with its least entry in the first row
+abbrev low : List ℕ
+low = 519 ∷ 10 ∷ 5230 ∷ 7000 ∷ 9999 ∷ 20 ∷ []
+
+-- ---- Replace, under the light (200, 180, 190), where a map holds 1 and a picture 7
+
+abbrev rect : ℕ → ℕ → ℕ → ℕ → Rect
+rect x y w h = record { x = x; y = y; w = w; h = h }
+
+abbrev byte : ℕ → ℕ
+byte k = (k * 37 + 11) % 256
+
+abbrev fresh : ℕ → ℕ
+fresh k = k * 11 + 40
+
+abbrev put : Size → Settings → Rect → List ℕ → State
+put z k c frame =
+    let n : ℕ = z .w * z .h in
+    let old : State = record { frame = frame; map = replicate n 1; picture = replicate (3 * n) 7 } in
+    replace (handed z k (rgb 200 180 190)) c (from 0 (3 * (c .w * c .h)) fresh) old
+
+abbrev block : State
+block = put (size 5 4) (radii 1 0) (rect 2 0 3 2) (from 0 60 byte)
+
+abbrev blockRow1 : List ℕ
+blockRow1 = 7 ∷ 7 ∷ 7 ∷ 118 ∷ 158 ∷ 196 ∷ 2 ∷ 21 ∷ 32 ∷ 43 ∷ 61 ∷ 73 ∷ 56 ∷ 84 ∷ 95 ∷ []
+
+abbrev blockRow2 : List ℕ
+blockRow2 = 7 ∷ 7 ∷ 7 ∷ 163 ∷ 203 ∷ 242 ∷ 130 ∷ 146 ∷ 157 ∷ 168 ∷ 183 ∷ 195 ∷ 206 ∷ 222 ∷ 233 ∷ []
+
+abbrev blockRow3 : List ℕ
+blockRow3 = 7 ∷ 7 ∷ 7 ∷ 209 ∷ 255 ∷ 2 ∷ 43 ∷ 88 ∷ 129 ∷ 170 ∷ 216 ∷ 255 ∷ 2 ∷ 48 ∷ 89 ∷ []
+
+abbrev strip : Size → Rect → List ℕ
+strip z c = put z (radii 1 1) c (broad 27) .map
+
 -- ---- refusal numbers at the ends of the ranges
 
 abbrev room : ℕ → ℕ → ℕ
@@ -102,7 +147,7 @@ clearNo frame map picture work a = refuseClear (size 2 1) (radii 0 0) a frame ma
 
 -- Replace in 5 by 4
 abbrev replaceNo : ℕ → ℕ → ℕ → ℕ → ℕ → ℕ
-replaceNo x y w h new = refuseReplace (size 5 4) (radii 0 0) (rgb 1 1 1) (record { x = x; y = y; w = w; h = h }) new 60 20 60 240
+replaceNo x y w h new = refuseReplace (size 5 4) (radii 0 0) (rgb 1 1 1) (rect x y w h) new 60 20 60 240
 
 -- Haze of 2 by 1
 abbrev hazeNo : ℕ → List ℕ → ℕ → Rgb → ℕ
@@ -339,5 +384,139 @@ table =
       no = 27;
       got = nats (recover 100 101 4000 ∷ recover 100 99 4000 ∷ recover 100 101 4001 ∷ recover 100 99 4001 ∷ []);
       want = nats (103 ∷ 97 ∷ 102 ∷ 98 ∷ []);
+    }
+    -- radii that differ: map entries at two corners; then a light
+    ∷ record { no = 28; got = mapAt (shape 6 5) (radii 3 2) (rgb 200 180 190) (broad 90) (0 ∷ 29 ∷ []); want = nats (6867 ∷ 7078 ∷ []) }
+    ∷ record { no = 28; got = lit (shape 6 2) (set 2 3 9500 59 1000 300) (broad 36); want = nats (167 ∷ 204 ∷ 241 ∷ []) }
+    -- a light with one channel of 0
+    ∷ record {
+      no = 29;
+      got = lit (shape 1 1) (radii 0 0) (0 ∷ 200 ∷ 100 ∷ [])
+          ++ lit (shape 1 1) (radii 0 0) (200 ∷ 0 ∷ 100 ∷ [])
+          ++ lit (shape 1 1) (radii 0 0) (200 ∷ 100 ∷ 0 ∷ []);
+      want = nats (1 ∷ 200 ∷ 100 ∷ 200 ∷ 1 ∷ 100 ∷ 200 ∷ 100 ∷ 1 ∷ []);
+    }
+    -- a negative offset, a half before it is rounded down
+    ∷ record { no = 30; got = line (shape 2 1) (radii 0 1) (50 ∷ 36 ∷ 215 ∷ 160 ∷ 194 ∷ 0 ∷ []) 0; want = pos 169321 ∷ negℤ (pos 50076628) ∷ [] }
+    -- map entries just below t0, at it and just above it
+    ∷ record {
+      no = 31;
+      got = under (shape 3 1) (set 0 0 10000 59 100 1) (rgb 100 102 199) (101 ∷ 101 ∷ 200 ∷ 99 ∷ 103 ∷ 200 ∷ 101 ∷ 103 ∷ 197 ∷ []);
+      want = nats (99 ∷ 100 ∷ 101 ∷ 200 ∷ 2 ∷ 255 ∷ 0 ∷ 202 ∷ 255 ∷ 199 ∷ 201 ∷ 1 ∷ []);
+    }
+    -- bands that leave the least entry out, or the next
+    ∷ record {
+      no = 32;
+      got = bits (figure (shape 2 3) low 1 2)
+          ++ bits (figure (shape 2 3) low 1 3)
+          ++ bits (figure (shape 2 3) low 0 2);
+      want = nats (4603683121889550533 ∷ 4602885984755505955 ∷ 4603185248950744724 ∷ 4566758108544739836 ∷ 4599417762682467936 ∷ 4562254508917369340 ∷ []);
+    }
+    -- other regularisations
+    ∷ record {
+      no = 33;
+      got = under (shape 3 1) (set 0 1 9500 1000 1000 1) (rgb 221 191 212) (221 ∷ 191 ∷ 212 ∷ 111 ∷ 97 ∷ 3 ∷ 179 ∷ 20 ∷ 254 ∷ []);
+      want = nats (1518 ∷ 10000 ∷ 7500 ∷ 221 ∷ 191 ∷ 212 ∷ 111 ∷ 97 ∷ 3 ∷ 165 ∷ 0 ∷ 255 ∷ []);
+    }
+    ∷ record {
+      no = 33;
+      got = under (shape 3 1) (set 0 1 9500 585225 1000 1) (rgb 221 191 212) (221 ∷ 191 ∷ 212 ∷ 111 ∷ 97 ∷ 3 ∷ 179 ∷ 20 ∷ 254 ∷ []);
+      want = nats (5563 ∷ 7208 ∷ 7929 ∷ 221 ∷ 191 ∷ 212 ∷ 68 ∷ 61 ∷ 0 ∷ 168 ∷ 0 ∷ 255 ∷ []);
+    }
+    -- Replace of 3 by 2 pixels in 5 by 4 at reach 1: all but the first column and the last row of map and picture are new
+    ∷ record {
+      no = 34;
+      got = nats (block .frame);
+      want = nats (from 0 6 byte ++ from 0 9 fresh ++ from 15 6 byte ++ from 9 9 fresh ++ from 30 30 byte);
+    }
+    ∷ record {
+      no = 34;
+      got = nats (block .map);
+      want = nats (1 ∷ 9478 ∷ 8100 ∷ 8100 ∷ 6533 ∷ 1 ∷ 9478 ∷ 8701 ∷ 8623 ∷ 8623 ∷ 1 ∷ 8701 ∷ 8701 ∷ 8623 ∷ 8623 ∷ 1 ∷ 1 ∷ 1 ∷ 1 ∷ 1 ∷ []);
+    }
+    ∷ record { no = 34; got = nats (block .picture); want = nats (blockRow1 ++ blockRow2 ++ blockRow3 ++ replicate 15 7) }
+    -- reach 3, to the right and upward: the map
+    ∷ record { no = 34; got = nats (strip (size 9 1) (rect 0 0 2 1)); want = nats (8198 ∷ 7968 ∷ 6769 ∷ 6739 ∷ 6230 ∷ 1 ∷ 1 ∷ 1 ∷ 1 ∷ []) }
+    ∷ record { no = 34; got = nats (strip (size 1 9) (rect 0 7 1 2)); want = nats (1 ∷ 1 ∷ 1 ∷ 1 ∷ 6392 ∷ 6199 ∷ 7701 ∷ 7901 ∷ 8100 ∷ []) }
+    -- m, just below 2
+    ∷ record { no = 35; got = nats (m (shape 1999 1) (radii 0 0) ∷ m (shape 10 10) (set 0 0 9500 59 1000 15) ∷ []); want = nats (1 ∷ 1 ∷ []) }
+    -- Light: each number alone, then with the next
+    ∷ record {
+      no = 36;
+      got = nats
+          (refuseLight (size 0 1) (radii 0 0) 0 16
+          ∷ refuseLight (size 2 1) (radii 31 0) 6 48
+          ∷ refuseLight (size 2 1) (radii 0 0) 5 48
+          ∷ refuseLight (size 2 1) (radii 0 0) 6 47
+          ∷ refuseLight (size 0 1) (radii 31 0) 0 16
+          ∷ refuseLight (size 2 1) (radii 31 0) 5 48
+          ∷ refuseLight (size 2 1) (radii 0 0) 5 47
+          ∷ refuseLight (size 2 1) (radii 0 0) 6 48
+          ∷ []);
+      want = nats (1 ∷ 2 ∷ 3 ∷ 4 ∷ 1 ∷ 2 ∷ 3 ∷ 0 ∷ []);
+    }
+    -- Clear: what row 23 lacks of the same
+    ∷ record {
+      no = 37;
+      got = nats
+          (refuseClear (size 0 1) (radii 0 0) (rgb 1 1 1) 0 0 0 16
+          ∷ refuseClear (size 2 1) (radii 31 0) (rgb 1 1 1) 6 2 6 48
+          ∷ refuseClear (size 2 1) (radii 0 0) (rgb 1 1 1) 6 2 6 47
+          ∷ refuseClear (size 0 1) (radii 31 0) (rgb 1 1 1) 0 0 0 16
+          ∷ refuseClear (size 2 1) (radii 31 0) (rgb 1 1 1) 5 2 6 48
+          ∷ []);
+      want = nats (1 ∷ 2 ∷ 4 ∷ 1 ∷ 2 ∷ []);
+    }
+    -- Replace: each number alone that row 24 lacks, 4 in its three ways; then with the next
+    ∷ record {
+      no = 38;
+      got = nats
+          (refuseReplace (size 1025 1) (radii 0 0) (rgb 1 1 1) (rect 0 0 1 1) 3 3075 1025 3075 16416
+          ∷ refuseReplace (size 5 4) (radii 31 0) (rgb 1 1 1) (rect 2 1 3 3) 27 60 20 60 240
+          ∷ refuseReplace (size 5 4) (radii 0 0) (rgb 1 1 1) (rect 2 1 3 3) 27 59 20 60 240
+          ∷ refuseReplace (size 5 4) (radii 0 0) (rgb 1 1 1) (rect 2 1 3 3) 27 60 19 60 240
+          ∷ refuseReplace (size 5 4) (radii 0 0) (rgb 1 1 1) (rect 2 1 3 3) 27 60 20 61 240
+          ∷ refuseReplace (size 5 4) (radii 0 0) (rgb 1 1 1) (rect 2 1 3 3) 27 60 20 60 239
+          ∷ refuseReplace (size 5 4) (radii 0 0) (rgb 1 0 1) (rect 2 1 3 3) 27 60 20 60 240
+          ∷ []);
+      want = nats (1 ∷ 2 ∷ 3 ∷ 4 ∷ 4 ∷ 4 ∷ 5 ∷ []);
+    }
+    ∷ record {
+      no = 38;
+      got = nats
+          (refuseReplace (size 1025 1) (radii 31 0) (rgb 1 1 1) (rect 0 0 1 1) 3 3075 1025 3075 16416
+          ∷ refuseReplace (size 5 4) (radii 31 0) (rgb 1 1 1) (rect 2 1 3 3) 27 59 20 60 240
+          ∷ refuseReplace (size 5 4) (radii 0 0) (rgb 1 1 1) (rect 2 1 3 3) 27 59 19 60 240
+          ∷ refuseReplace (size 5 4) (radii 0 0) (rgb 0 1 1) (rect 2 1 3 3) 27 60 20 60 239
+          ∷ refuseReplace (size 5 4) (radii 0 0) (rgb 1 1 0) (rect 2 1 4 3) 36 60 20 60 240
+          ∷ refuseReplace (size 5 4) (radii 0 0) (rgb 1 1 1) (rect 2 1 4 3) 27 60 20 60 240
+          ∷ []);
+      want = nats (1 ∷ 2 ∷ 3 ∷ 4 ∷ 5 ∷ 6 ∷ []);
+    }
+    -- Haze: what row 25 lacks
+    ∷ record {
+      no = 39;
+      got = nats
+          (refuseHaze (size 0 1) (rgb 1 1 1) 0 [] 0
+          ∷ refuseHaze (size 2 1) (rgb 1 1 1) 5 (9 ∷ 9 ∷ []) 6
+          ∷ refuseHaze (size 2 1) (rgb 1 1 1) 6 (9 ∷ []) 6
+          ∷ refuseHaze (size 2 1) (rgb 1 1 1) 6 (9 ∷ 9 ∷ []) 7
+          ∷ refuseHaze (size 2 1) (rgb 1 1 0) 6 (9 ∷ 9 ∷ []) 6
+          ∷ refuseHaze (size 0 1) (rgb 1 1 1) 1 [] 0
+          ∷ refuseHaze (size 2 1) (rgb 1 0 1) 6 (9 ∷ []) 6
+          ∷ []);
+      want = nats (1 ∷ 3 ∷ 4 ∷ 4 ∷ 5 ∷ 1 ∷ 4 ∷ []);
+    }
+    -- Band figure: what row 26 lacks
+    ∷ record {
+      no = 40;
+      got = nats
+          (refuseBand (size 0 3) [] 0 3
+          ∷ refuseBand (size 1 3) (1 ∷ 2 ∷ []) 0 1
+          ∷ refuseBand (size 1 3) (1 ∷ 2 ∷ 3 ∷ 4 ∷ []) 0 1
+          ∷ refuseBand (size 0 3) (1 ∷ []) 0 3
+          ∷ refuseBand (size 1 3) (1 ∷ 2 ∷ 65535 ∷ []) 1 1
+          ∷ []);
+      want = nats (1 ∷ 4 ∷ 4 ∷ 1 ∷ 6 ∷ []);
     }
     ∷ []
