@@ -12,6 +12,7 @@ use Rattle.rules.specs.Fold.{Σ}
 use Rattle.rules.specs.Light.{darkest, dark}
 use Rattle.rules.proofs.Local.{Within}
 use Rattle.rules.proofs.Fold.{window-square, least-square}
+use Rattle.rules.proofs.Pixels.{span-has, span-within}
 
 -- ---- minima of a run of values
 
@@ -36,26 +37,17 @@ module _ (top : ℕ) (z : Shape) (q : ℕ) (f : Plane ℕ) (y x : ℕ) where
 
   pub least-le : (v u : ℕ) → Within z q y x v u → least top (window z q f y x) ≤ f v u
   least-le v u w =
-      let rows = run-le top (low q y) (many (z .h) q y) (λ v. Σ min top (low q x) (many (z .w) q x) (λ u. f v u)) v (omega arith) (omega arith) in
-      let columns = run-le top (low q x) (many (z .w) q x) (λ u. f v u) u (omega arith) (omega arith) in
+      let rows = span-has (z .h) q y v (w .row) (w .above) (w .below) in
+      let columns = span-has (z .w) q x u (w .column) (w .left) (w .right) in
+      let i = run-le top (low q y) (many (z .h) q y) (λ v. Σ min top (low q x) (many (z .w) q x) (λ u. f v u)) v (rows .0) (rows .1) in
+      let j = run-le top (low q x) (many (z .w) q x) (λ u. f v u) u (columns .0) (columns .1) in
       rw by-rows (omega arith)
 
   pub least-most : (c : ℕ) → c ≤ top → ((v u : ℕ) → Within z q y x v u → c ≤ f v u) → c ≤ least top (window z q f y x)
   least-most c t h =
       rw by-rows
       (run-most top (low q y) (many (z .h) q y) _ c t
-      (λ v a b.
-      run-most top (low q x) (many (z .w) q x) (λ u. f v u) c t
-      (λ u d e.
-      h v u
-      (record {
-        row = omega arith;
-        column = omega arith;
-        above = omega arith;
-        below = omega arith;
-        left = omega arith;
-        right = omega arith;
-      }))))
+      (λ v a b. run-most top (low q x) (many (z .w) q x) (λ u. f v u) c t (λ u d e. h v u (span-within z q y x v u a b d e))))
 
 -- ---- dark values
 

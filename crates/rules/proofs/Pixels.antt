@@ -1,6 +1,6 @@
 -- What a window is. The window of radius q about (y, x) has each pixel of the frame at most q rows and q columns away once (`pixel-once`) and no
--- other (`pixel-none`), and its values are those of its pixels, in the same order (`window-values`). So its size is the number of its pixels.
--- Assumes nothing.
+-- other (`pixel-none`), and its values are those of its pixels, in the same order (`window-values`). So its size is the number of its pixels. A row or
+-- a column of it is the numbers of the frame at most q from y or x (`span-has`, `span-only`). Assumes nothing.
 use mathlib.Core.Path.{_≡_, refl, sym, ap, _∙_}
 use mathlib.Core.Bool.{Bool, true, false, cond, _&&_}
 use mathlib.Core.List.{List, map, foldr}
@@ -27,6 +27,21 @@ same v u i = eqb v (i .0) && eqb u (i .1)
 -- how often (v, u) stands in a list
 abbrev pub times : ℕ → ℕ → List (ℕ × ℕ) → ℕ
 times v u l = count (same v u) l
+
+-- ---- one line: the n numbers from low on are those below the end and at most q from p
+
+pub span-has : (end q p i : ℕ) → i < end → p ≤ i + q → i ≤ p + q → (low q p ≤ i) × (i < low q p + many end q p)
+span-has end q p i a b c = (omega arith, omega arith)
+
+pub span-only : (end q p i : ℕ) → low q p ≤ i → i < low q p + many end q p → (i < end) × (p ≤ i + q) × (i ≤ p + q)
+span-only end q p i a b = (omega arith, omega arith, omega arith)
+
+-- rows and columns together
+pub span-within : (z : Shape) (q y x v u : ℕ) → low q y ≤ v → v < low q y + many (z .h) q y → low q x ≤ u → u < low q x + many (z .w) q x → Within z q y x v u
+span-within z q y x v u a b c d =
+    let rows = span-only (z .h) q y v a b in
+    let columns = span-only (z .w) q x u c d in
+    record { row = rows .0; column = columns .0; above = rows .1; below = rows .2; left = columns .1; right = columns .2 }
 
 -- ---- sums of values that are 0, and that are 0 but at v
 
@@ -63,34 +78,26 @@ module _ (z : Shape) (q y x v u : ℕ) where
   pub pixel-once : Within z q y x v u → times v u (window z q spot y x) ≡ 1
   unfolding one
   pixel-once w =
+      let rows = span-has (z .h) q y v (w .row) (w .above) (w .below) in
+      let columns = span-has (z .w) q x u (w .column) (w .left) (w .right) in
       by-rows
-      ∙ sum-one (low q y) (many (z .h) q y) _ v (omega arith) (omega arith)
+      ∙ sum-one (low q y) (many (z .h) q y) _ v (rows .0) (rows .1)
       (λ i n. sum-none (low q x) (many (z .w) q x) (λ j. one i j) (λ j _ _. rw (ne-eqb v i (λ t. n (sym t)))))
-      ∙ sum-one (low q x) (many (z .w) q x) (λ j. one v j) u (omega arith) (omega arith) (λ j n. rw (eq-eqb v v refl, ne-eqb u j (λ t. n (sym t))))
+      ∙ sum-one (low q x) (many (z .w) q x) (λ j. one v j) u (columns .0) (columns .1) (λ j n. rw (eq-eqb v v refl, ne-eqb u j (λ t. n (sym t))))
       ∙ rw (eq-eqb v v refl, eq-eqb u u refl)
 
   pub pixel-none : (Within z q y x v u → ⊥) → times v u (window z q spot y x) ≡ 0
   unfolding one
   pixel-none h =
       by-rows
-      ∙ sum-none (low q y) (many (z .h) q y) _ (λ i a b. sum-none (low q x) (many (z .w) q x) (λ j. one i j) (λ j c d. go i j a b c d (same v u (i, j)) refl))
+      ∙ sum-none (low q y) (many (z .h) q y) _
+      (λ i a b. sum-none (low q x) (many (z .w) q x) (λ j. one i j) (λ j c d. go i j (span-within z q y x i j a b c d) (same v u (i, j)) refl))
     where
-      go : (i j : ℕ) → low q y ≤ i → i < low q y + many (z .h) q y → low q x ≤ j → j < low q x + many (z .w) q x → (b : Bool) → same v u (i, j) ≡ b → _≡_ {A = ℕ} (cond b 1 0) 0
-      go i j a b c d false e = refl
-      go i j a b c d true e =
+      go : (i j : ℕ) → Within z q y x i j → (b : Bool) → same v u (i, j) ≡ b → _≡_ {A = ℕ} (cond b 1 0) 0
+      go i j w false e = refl
+      go i j w true e =
           let t = apart (eqb v i) (eqb u j) e in
-          let s : v ≡ i = eqb-true v i (t .0) in
-          let r : u ≡ j = eqb-true u j (t .1) in
-          absurd
-          (h
-          (record {
-            row = omega arith;
-            column = omega arith;
-            above = omega arith;
-            below = omega arith;
-            left = omega arith;
-            right = omega arith;
-          }))
+          absurd (h (rw (eqb-true v i (t .0), eqb-true u j (t .1)) w))
 
 -- the values of a window are those of its pixels, in the same order
 pub window-values : {A : Type 0} (z : Shape) (q : ℕ) (f : Plane A) (y x : ℕ) → window z q f y x ≡ map (λ (i : ℕ × ℕ). f (i .0) (i .1)) (window z q spot y x)
