@@ -1,6 +1,7 @@
--- What T is in a clearing: the larger of map entry and t0. It is at least both and one of them (`Larger`), there is one such number (`larger-one`), and
--- each cleared pixel is the recovery at it: of the rule (`cleared-at`), and of the buffers that Clear leaves (`clear-at`). Assumes nothing.
-use mathlib.Core.Path.{_≡_, refl, _∙_}
+-- What T is in a clearing: the larger of map entry and t0. It is at least both and one of them (`Larger`), there is such a number (`larger-some`) and
+-- one alone (`larger-one`), and each cleared pixel is the recovery at it: of the rule (`cleared-at`), and of the buffers that Clear leaves (`clear-at`).
+-- Assumes nothing.
+use mathlib.Core.Path.{_≡_, ap, _∙_}
 use mathlib.Core.Logic.{_⊎_, inl, inr, ⊎-elim}
 use mathlib.Core.List.{List}
 use Prim.Native.Nat.{ℕ, _≤_, _<_, max}
@@ -25,28 +26,26 @@ pub record Larger (m n t : ℕ) : Type 0 where
 pub larger-one : (m n t t′ : ℕ) → Larger m n t → Larger m n t′ → t ≡ t′
 larger-one m n t t′ a b = ⊎-elim (λ e. ⊎-elim (λ f. omega arith) (λ f. omega arith) (b .one)) (λ e. ⊎-elim (λ f. omega arith) (λ f. omega arith) (b .one)) (a .one)
 
-larger-max : (m n : ℕ) → Larger m n (max m n)
-larger-max m n = record { first = omega arith; second = omega arith; one = go (decLe m n) }
+pub larger-some : (m n : ℕ) → (t : ℕ) × Larger m n t
+larger-some m n = (max m n, record { first = omega arith; second = omega arith; one = go (decLe m n) })
   where
     go : Dec (m ≤ n) → (max m n ≡ m) ⊎ (max m n ≡ n)
     go (yes h) = inr (omega arith)
     go (no h) = inl (omega arith)
 
--- there is a T, so by `larger-one` one alone, and the cleared pixel is the recovery at it
-pub cleared-at : (z : Shape) (k : Settings) (a : Rgb) (f : Plane Rgb) (y x : ℕ)
-    → (t : ℕ) × Larger (refined z k a f y x) (k .t0) t × (cleared z k a f y x ≡ recover3 a (f y x) t)
+-- the cleared pixel of the rule
+pub cleared-at : (z : Shape) (k : Settings) (a : Rgb) (f : Plane Rgb) (y x t : ℕ) → Larger (refined z k a f y x) (k .t0) t → cleared z k a f y x ≡ recover3 a (f y x) t
 unfolding cleared
-cleared-at z k a f y x = (max (refined z k a f y x) (k .t0), larger-max (refined z k a f y x) (k .t0), refl)
+cleared-at z k a f y x t l = ap (recover3 a (f y x)) (⊎-elim (λ e. omega arith) (λ e. omega arith) (l .one))
 
--- the same of the map and the picture that Clear leaves: the map's own entry, and the frame's own pixel
-pub clear-at : (p : Setup) (frame : List ℕ) (y x : ℕ)
-    → y < shape p .h
-    → x < shape p .w
-    → (t : ℕ)
-    × Larger (values (shape p) (clear p frame .map) y x) (p .settings .t0) t
-    × (pixels (shape p) (clear p frame .picture) y x ≡ recover3 (p .light) (pixels (shape p) frame y x) t)
+-- and of the picture that Clear leaves, by the map's own entry and the frame's own pixel
+pub clear-at :
+    (p : Setup) (frame : List ℕ) (y x t : ℕ)
+    → y < p .size .h
+    → x < p .size .w
+    → Larger (values (shape p) (clear p frame .map) y x) (p .settings .t0) t
+    → pixels (shape p) (clear p frame .picture) y x ≡ recover3 (p .light) (pixels (shape p) frame y x) t
 unfolding clear
-clear-at p frame y x hy hx =
+clear-at p frame y x t hy hx l =
     let z = shape p in
-    let c = cleared-at z (p .settings) (p .light) (pixels z frame) y x in
-    (c .0, rw (values-entries z _ y x hy hx) (c .1), pixels-bytes z _ y x hy hx ∙ c .2)
+    pixels-bytes z _ y x hy hx ∙ cleared-at z (p .settings) (p .light) (pixels z frame) y x t (rw (values-entries z _ y x hy hx) at l)

@@ -16,7 +16,7 @@ use Rattle.rules.specs.declared.Answer.the-variants.{Done}
 use Rattle.rules.specs.Window.{Plane}
 use Rattle.rules.specs.Setup.{Setup, shape}
 use Rattle.rules.specs.Good.{GoodRect}
-use Rattle.rules.specs.Buffers.{pixels, values, State, clear, near, patch, placed, pasted, replace}
+use Rattle.rules.specs.Buffers.{pixels, values, State, clear, near, patch, placed, pasted, reach, replace}
 use Rattle.rules.specs.Promise.{Lent, state, noReplace, afterReplace, Replaces}
 use Rattle.rules.proofs.Near.{Near, Far, near-yes, far-no, near-or-far}
 use Rattle.rules.proofs.Buffers.{values-entries, pixels-bytes}
@@ -91,11 +91,13 @@ module _ (p : Setup) (c : Rect) (new : List ℕ) where
   unfolding replace clear
   replace-anew s g =
       let z = shape p in
-      let q = p .settings .s + 2 * p .settings .r in
+      let k = p .settings in
+      let e : k .s + 2 * k .r ≡ reach k = omega arith in
+      let close : (y x : ℕ) → Near (k .s + 2 * k .r) c y x → near (reach k) c y x ≡ true = λ y x n. near-yes (reach k) c y x (rw e at n) in
       record {
         frame = pasted-inside z c new (s .frame) g;
-        map = λ y x hy hx n. values-entries z _ y x hy hx ∙ patch-yes (near q c) _ _ y x (near-yes q c y x n) ∙ sym (values-entries z _ y x hy hx);
-        picture = λ y x hy hx n. pixels-bytes z _ y x hy hx ∙ patch-yes (near q c) _ _ y x (near-yes q c y x n) ∙ sym (pixels-bytes z _ y x hy hx);
+        map = λ y x hy hx n. values-entries z _ y x hy hx ∙ patch-yes (near (reach k) c) _ _ y x (close y x n) ∙ sym (values-entries z _ y x hy hx);
+        picture = λ y x hy hx n. pixels-bytes z _ y x hy hx ∙ patch-yes (near (reach k) c) _ _ y x (close y x n) ∙ sym (pixels-bytes z _ y x hy hx);
       }
 
   pub replaces-anew : (l m : Lent) (r : Answer) → Replaces p c new l r m → r ≡ Done → Anew p c new (state m)

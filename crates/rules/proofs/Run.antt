@@ -5,6 +5,7 @@ use mathlib.Core.Path.{_≡_, refl, sym, ap, _∙_, subst}
 use mathlib.Core.Bool.{Bool, true, false, cond}
 use mathlib.Core.List.{List, [], _∷_}
 use Prim.Native.Nat.{ℕ, zero, suc, _+_, _*_, _<_}
+use native.Mathlib.Omega.{arith}
 use Rattle.rules.specs.Shape.{Shape}
 use Rattle.rules.specs.declared.Settings.{Settings}
 use Rattle.rules.specs.declared.Rgb.{Rgb}
@@ -102,11 +103,12 @@ pub replace-alone : (p : Setup) (c : Rect) (new : List ℕ) (s : State) → Alon
 unfolding replace
 replace-alone p c new s =
     let z = shape p in
-    let q = p .settings .s + 2 * p .settings .r in
+    let k = p .settings in
+    let e : k .s + 2 * k .r ≡ reach k = omega arith in
     record {
       frame = λ y x hy hx f. pixels-bytes z _ y x hy hx ∙ patch-no (near 0 c) _ _ y x (far-no 0 c y x f);
-      map = λ y x hy hx f. values-entries z _ y x hy hx ∙ patch-no (near q c) _ _ y x (far-no q c y x f);
-      picture = λ y x hy hx f. pixels-bytes z _ y x hy hx ∙ patch-no (near q c) _ _ y x (far-no q c y x f);
+      map = λ y x hy hx f. values-entries z _ y x hy hx ∙ patch-no (near (reach k) c) _ _ y x (far-no (reach k) c y x (rw e at f));
+      picture = λ y x hy hx f. pixels-bytes z _ y x hy hx ∙ patch-no (near (reach k) c) _ _ y x (far-no (reach k) c y x (rw e at f));
     }
 
 -- ---- demand 3 of the calls' own promises

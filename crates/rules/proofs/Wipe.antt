@@ -53,8 +53,13 @@ module _ (n : ℕ) (l : List ℤ) where
 pub wiped-is : (z : Shape) (work : List ℤ) → 8 * ((z .w + 1) * (z .h + 1)) ≤ length work → Wiped (z .w) (z .h) work (wiped z work)
 unfolding wiped
 wiped-is z work h =
-    let n = 8 * ((z .w + 1) * (z .h + 1)) in
-    record { front = zeros-front n work; rest = zeros-rest n work; same = zeros-length n work h }
+    let n = room z in
+    let e : 8 * ((z .w + 1) * (z .h + 1)) ≡ n = omega arith in
+    record {
+      front = λ i d j. zeros-front n work i d (omega arith);
+      rest = λ i d j. zeros-rest n work i d (omega arith);
+      same = zeros-length n work (omega arith);
+    }
 
 -- ---- of the calls
 
@@ -63,14 +68,15 @@ lights-wiped z k frame work work′ r q e =
     let n = refuseLight z k (length frame) (length work) in
     let free : n ≡ 0 = sym (said-found n _) ∙ ap foundSaid (sym (q .answer)) ∙ e in
     let left : work′ ≡ wiped (described z) work = rw free at (q .after) in
-    rw left (wiped-is (described z) work (work-good z (length work) (light-exact z k (length frame) (length work) .free free .1 .1 .1 .0)))
+    rw left
+    (wiped-is (described z) work (omega (arith, work-good z (length work) (light-exact z k (length frame) (length work) .free free .1 .1 .1 .0))))
 
 module _ (p : Setup) where
   -- test 4 has the work area last
-  roomy : (l : Lent) → (badFrame (p .size) (length (l .picture)) || badMap (p .size) (length (l .map)) || badWork (p .size) (length (l .work))) ≡ false → room (shape p) ≤ length (l .work)
+  roomy : (l : Lent) → (badFrame (p .size) (length (l .picture)) || badMap (p .size) (length (l .map)) || badWork (p .size) (length (l .work))) ≡ false → 8 * ((p .size .w + 1) * (p .size .h + 1)) ≤ length (l .work)
   roomy l e =
-      work-good (p .size) (length (l .work))
-      (neither (badFrame (p .size) (length (l .picture)) || badMap (p .size) (length (l .map))) (badWork (p .size) (length (l .work))) e .1)
+      let others = badFrame (p .size) (length (l .picture)) || badMap (p .size) (length (l .map)) in
+      omega (arith, work-good (p .size) (length (l .work)) (neither others (badWork (p .size) (length (l .work))) e .1))
 
   pub clears-wiped : (l m : Lent) (r : Answer) → Clears p l r m → r ≡ Done → Wiped (p .size .w) (p .size .h) (l .work) (m .work)
   clears-wiped l m r q e =
