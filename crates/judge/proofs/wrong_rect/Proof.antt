@@ -20,7 +20,15 @@ either-requires-3 c κs = tt
 
 returns : tie.Need-returns
 unfolding badRect
-returns c = cc
+returns c =
+    let rect = c .before .before in
+    rw (
+      c .either3 .ensures,
+      c .before .past2 .ensures,
+      rect .either2 .ensures,
+      rect .before .past .ensures,
+      rect .before .before .either .ensures,
+    )
 
 pub wrong-rect-spec : {M : Type 1} → statement M
 wrong-rect-spec =
