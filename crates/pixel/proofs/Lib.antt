@@ -1,2 +1,3 @@
 -- The laws of one pixel's arithmetic.
 pub mod Sizes
+pub mod Signs

@@ -1,10 +1,11 @@
 // One pixel's arithmetic, as document 01 has it. Every whole-number division of the library is here, each in one function, and in 32 bits
 // where the numbers are small, since that is quicker.
 ghost use mathlib.Core.Path.{_≡_};
+ghost use mathlib.Core.Bool.{true, false};
 ghost use Prim.Native.Nat.{_+_, _*_, _/_, _^_, _≤_, _<_};
 ghost use lib.ListN.{length};
-ghost use lib.IntN.{natAbs};
-ghost use lib.Signed.{shrZ};
+ghost use lib.IntN.{pos, natAbs};
+ghost use lib.Signed.{shrZ, ltZ};
 ghost use Rattle.rules.specs.Good.{GoodLight};
 ghost use Rattle.rules.specs.Light.{darkest, guide};
 ghost use Rattle.rules.specs.Transmission.{ratio, leastRatio, coarseOf, slopeOf, offsetOf, refineOf, held};
@@ -72,13 +73,40 @@ pub fn coarse_of(omega: u64, d: u64) -> u64
     (10000 - (omega as u32) * (d as u32) / 10000) as u64
 }
 
+// The quotient of two natural numbers.
+fn quotient(n: u64, q: u64) -> u64
+    requires { ⌜ 0 < q ⌝ }
+    ensures { λ r. ⌜ (r ≡ n / q) × (r ≤ n) ⌝ }
+{
+    n / q
+}
+
+// How far a p below 0 is from 0.
+fn size_below(p: i64) -> u64
+    requires { ⌜ (ltZ p (pos 0) ≡ true) × (natAbs p < 2 ^ 63) ⌝ }
+    ensures { λ r. ⌜ r ≡ natAbs p ⌝ }
+{
+    (0 - p) as u64
+}
+
+// The number that is n below 0.
+fn minus(n: u64) -> i64
+    requires { ⌜ n < 2 ^ 63 ⌝ }
+    ensures { λ r. ⌜ (natAbs r ≡ n) × (ltZ (pos 0) r ≡ false) ⌝ }
+{
+    0 - (n as i64)
+}
+
 // The quotient rounded down.
 fn floor_div(p: i64, q: u64) -> i64
-    requires { ⌜ (0 < q) × (q < 2 ^ 63) ⌝ }
+    requires { ⌜ (0 < q) × (natAbs p < 2 ^ 63) ⌝ }
     ensures { λ r. ⌜ r ≡ shrZ p q ⌝ }
 {
-    let d = q as i64;
-    if p < 0 { -1 - (-1 - p) / d } else { p / d }
+    if p < 0 {
+        minus(1 + quotient(size_below(p) - 1, q))
+    } else {
+        quotient(p as u64, q) as i64
+    }
 }
 
 // The slope of the line that fits a window.

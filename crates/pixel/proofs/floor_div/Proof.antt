@@ -1,86 +1,105 @@
--- `pixel::floor_div` meets its contract. Below 0, -1 - p is the natural a of `negsuc a`, so one division of naturals rounds down.
+-- `pixel::floor_div` meets its contract. Below 0 the quotient rounded down is the number whose size is one more than that of the size of p less 1.
 -- Assumes nothing.
-use mathlib.Core.Path.{_≡_, ap, _∙_, refl}
+use mathlib.Core.Path.{_≡_, ap, _∙_}
 use mathlib.Core.Bool.{true, false, true≢false}
-use Prim.Native.Nat.{ℕ, zero, suc, _<_, _/_, _^_}
-use native.Mathlib.Nat.{div-le-self, lt-of-le-of-lt, zero-add, not-suc-le-zero}
-use borrow.Author.Needs.{needs}
-use borrow.Author.Tests.{ltb-true}
-use lib.IntN.{ℤ, pos, negsuc, _-ℤ_, +ℤ-comm, -ℤ-one}
-use lib.Signed.{quotZ, shrZ, ltZ}
-use mir.Syntax.{w64}
-use mir.Val.{SFits, toZ, ofZ}
-use Rattle.rules.proofs.Integers.{back, rd-is}
+use Prim.Native.Nat.{ℕ, zero, suc, _+_, _-_, _/_, _<_, _^_}
+use native.Mathlib.Nat.{not-suc-le-zero}
+use native.Mathlib.Omega.{arith}
+use borrow.Author.Tests.{ltb-true, ltb-false}
+use lib.IntN.{ℤ, pos, negsuc, natAbs}
+use lib.Signed.{shrZ, ltZ}
+use Rattle.rules.proofs.Integers.{back, fits, rd, rd-is}
+use Rattle.pixel.proofs.Signs.{plain}
 use Rattle.pixel.proofs.floor_div.Statement.{statement}
 use Rattle.pixel.proofs.floor_div.Tie as tie
 
-inner : (a : ℕ) → negsuc 0 -ℤ negsuc a ≡ pos a
-inner a = +ℤ-comm (negsuc 0) (pos (suc a)) ∙ -ℤ-one (pos (suc a))
+-- ---- p below 0
 
-outer : (k : ℕ) → negsuc 0 -ℤ pos k ≡ negsuc k
-outer zero = refl
-outer (suc k) = ap (λ (n : ℕ). negsuc (suc n)) (zero-add k)
+some : (p : ℤ) → ltZ p (pos 0) ≡ true → 0 < natAbs p
+some (pos a) t = absurd (not-suc-le-zero (ltb-true a 0 t))
+some (negsuc a) t = omega arith
 
--- what each step fits and comes to, where p is below 0
-record Below (p : ℤ) (q : ℕ) : Type 0 where
-  fit₁ : SFits w64 (negsuc 0 -ℤ p)
-  fit₂ : SFits w64 (quotZ (negsuc 0 -ℤ p) (pos q))
-  fit₃ : SFits w64 (negsuc 0 -ℤ quotZ (negsuc 0 -ℤ p) (pos q))
-  ends : negsuc 0 -ℤ quotZ (negsuc 0 -ℤ p) (pos q) ≡ shrZ p q
+rounded : (p r : ℤ) (q : ℕ) → ltZ p (pos 0) ≡ true → ltZ (pos 0) r ≡ false → natAbs r ≡ 1 + (natAbs p - 1) / q → r ≡ shrZ p q
+rounded (pos a) r q t l e = absurd (not-suc-le-zero (ltb-true a 0 t))
+rounded (negsuc a) (pos zero) q t l e = absurd (omega arith)
+rounded (negsuc a) (pos (suc b)) q t l e = absurd (omega (arith, ltb-false 0 (suc b) l))
+rounded (negsuc a) (negsuc b) q t l e =
+    let less : suc a - 1 ≡ a = omega arith in
+    let e′ : suc b ≡ 1 + a / q = rw less at e in
+    let same : b ≡ a / q = omega arith in
+    ap negsuc same
 
-below : (p : ℤ) (q : ℕ) → ltZ p (pos 0) ≡ true → SFits w64 p → Below p q
-below (pos a) q t f = absurd (not-suc-le-zero (ltb-true a 0 t))
-below (negsuc a) q t f =
-    let small : a / q < 2 ^ 63 = lt-of-le-of-lt (div-le-self a q) (f .sfits) in
-    record {
-      fit₁ = rw inner (record { sfits = f .sfits });
-      fit₂ = rw inner (record { sfits = small });
-      fit₃ = rw (inner, outer) (record { sfits = small });
-      ends = rw inner (outer (a / q));
-    }
+-- ---- and not below 0
 
--- and where it is not
-record Above (p : ℤ) (q : ℕ) : Type 0 where
-  fit : SFits w64 (quotZ p (pos q))
-  ends : quotZ p (pos q) ≡ shrZ p q
+cut : (p : ℤ) (q k : ℕ) → ltZ p (pos 0) ≡ false → k ≡ natAbs p / q → pos k ≡ shrZ p q
+cut (pos a) q k t e = ap pos e
+cut (negsuc a) q k t e = absurd (true≢false t)
 
-above : (p : ℤ) (q : ℕ) → ltZ p (pos 0) ≡ false → SFits w64 p → Above p q
-above (pos a) q t f = record { fit = record { sfits = lt-of-le-of-lt (div-le-self a q) (f .sfits) }; ends = refl }
-above (negsuc a) q t f = absurd (true≢false t)
+p-back : (s : tie.Start) → rd (s .args .p) ≡ s .args .p
+p-back s = rd-is (s .args .p) (s .pre .1)
 
-module _ (s : tie.Start) where
-  p-back : toZ w64 (ofZ w64 (s .args .p)) ≡ s .args .p
-  p-back = back (s .args .p) (s .fits .p)
+taken : (c : tie.Then1) → ltZ (c .before .args .p) (pos 0) ≡ true
+taken c = rw (p-back (c .before)) at (c .if1 .taken)
 
-  q-back : toZ w64 (s .args .q) ≡ pos (s .args .q)
-  q-back = rd-is (pos (s .args .q)) (s .pre .1)
+left : (c : tie.Else1) → ltZ (c .before .args .p) (pos 0) ≡ false
+left c = rw (p-back (c .before)) at (c .if1 .left)
 
-low : (c : tie.Then1) → Below (c .before .args .p) (c .before .args .q)
-low c = let s = c .before in below (s .args .p) (s .args .q) (rw (p-back s) at (c .if1 .taken)) (s .fits .p)
+-- what the calls answered
+size : (c : tie.After-size-below) → (c .size-below .result ≡ natAbs (c .before .before .args .p)) × (0 < natAbs (c .before .before .args .p))
+size c = let s = c .before .before in (rw (p-back s) at (c .size-below .ensures), some (s .args .p) (taken (c .before)))
 
-high : (c : tie.Else1) → Above (c .before .args .p) (c .before .args .q)
-high c = let s = c .before in above (s .args .p) (s .args .q) (rw (p-back s) at (c .if1 .left)) (s .fits .p)
+small : (c : tie.After-quotient2) → c .quotient2 .result < 2 ^ 63
+small c = let s = c .before .before in omega (arith, rw (p-back s) at (c .quotient2 .ensures .1), s .pre .1)
 
-cast-d : tie.Need-cast-d
-cast-d c = search needs
+size-below-requires : tie.Need-size-below-requires
+size-below-requires c κs = rw (p-back (c .before)) (taken c, c .before .pre .1)
 
-sub-result : tie.Need-sub-result
-sub-result c = rw (p-back (c .before)) (low c .fit₁)
+sub-quotient : tie.Need-sub-quotient
+sub-quotient c = omega (arith, size c)
 
-div-result : tie.Need-div-result
-div-result c = let s = c .before in (s .pre .0, rw (p-back s, back _ (low c .fit₁), q-back s) (low c .fit₂))
+quotient-requires : tie.Need-quotient-requires
+quotient-requires c κs = c .before .before .pre .0
 
-sub-result-2 : tie.Need-sub-result-2
-sub-result-2 c = let s = c .before in rw (p-back s, back _ (low c .fit₁), q-back s, back _ (low c .fit₂)) (low c .fit₃)
+add-minus : tie.Need-add-minus
+add-minus c = omega (arith, size (c .before), c .quotient .ensures .1, c .before .before .before .pre .1)
 
-div-result-2 : tie.Need-div-result-2
-div-result-2 c = let s = c .before in (s .pre .0, rw (p-back s, q-back s) (high c .fit))
+minus-requires : tie.Need-minus-requires
+minus-requires c κs = omega (arith, size (c .before), c .quotient .ensures .1, c .before .before .before .pre .1)
+
+cast-quotient : tie.Need-cast-quotient
+cast-quotient c = let s = c .before in rw (p-back s) (plain (s .args .p) (left c) (s .fits .p))
+
+quotient-requires-2 : tie.Need-quotient-requires-2
+quotient-requires-2 c κs = c .before .pre .0
+
+cast-result : tie.Need-cast-result
+cast-result c = fits (pos (c .quotient2 .result)) (small c)
 
 returns : tie.Need-returns
-returns c = let s = c .before in rw (p-back s, back _ (low c .fit₁), q-back s, back _ (low c .fit₂), back _ (low c .fit₃)) (low c .ends)
+returns c =
+    let s = c .before .before .before .before in
+    let is = back (c .minus .result) (record { sfits = c .minus .ok }) in
+    let quotient = rw (size (c .before .before) .0) at (c .before .quotient .ensures .0) in
+    let minus = c .minus .ensures in
+    is ∙ rounded (s .args .p) (c .minus .result) (s .args .q) (taken (c .before .before .before)) (minus .1) (omega (arith, quotient, minus .0))
 
 returns-2 : tie.Need-returns-2
-returns-2 c = let s = c .before in rw (p-back s, q-back s, back _ (high c .fit)) (high c .ends)
+returns-2 c =
+    let s = c .before .before in
+    let quotient = rw (p-back s) at (c .quotient2 .ensures .0) in
+    rd-is (pos (c .quotient2 .result)) (small c) ∙ cut (s .args .p) (s .args .q) (c .quotient2 .result) (left (c .before)) quotient
 
 pub floor-div-spec : {M : Type 1} → statement M
-floor-div-spec = tie.close (tie.spec cast-d sub-result div-result sub-result-2 div-result-2 returns returns-2)
+floor-div-spec =
+    tie.close
+    (tie.spec
+    size-below-requires
+    sub-quotient
+    quotient-requires
+    add-minus
+    minus-requires
+    cast-quotient
+    quotient-requires-2
+    cast-result
+    returns
+    returns-2)

@@ -3,26 +3,21 @@ use mathlib.Core.Path.{_≡_, refl, _∙_}
 use mathlib.Core.Bool.{true, false, true≢false}
 use Prim.Native.Nat.{min}
 use native.Mathlib.Nat.{not-suc-le-zero}
-use native.Mathlib.Omega.{arith}
 use borrow.Author.Needs.{needs}
 use borrow.Author.Tests.{ltb-true}
 use lib.IntN.{ℤ, pos, negsuc, natAbs}
-use lib.Signed.{ltZ, nonNeg}
-use lib.Dec.{T}
+use lib.Signed.{ltZ}
 use mir.Syntax.{w64}
-use mir.Val.{SFits, Fits, toZ, ofZ}
+use mir.Val.{toZ, ofZ}
 use Rattle.rules.specs.Transmission.{held}
 use Rattle.rules.proofs.Integers.{back}
+use Rattle.pixel.proofs.Signs.{plain}
 use Rattle.pixel.proofs.hold.Statement.{statement}
 use Rattle.pixel.proofs.hold.Tie as tie
 
 below : (v : ℤ) → ltZ v (pos 0) ≡ true → 0 ≡ held 10000 v
 below (pos a) t = absurd (not-suc-le-zero (ltb-true a 0 t))
 below (negsuc a) t = refl
-
-plain : (v : ℤ) → ltZ v (pos 0) ≡ false → SFits w64 v → T (nonNeg v) × Fits w64 (natAbs v)
-plain (pos a) t f = (tt, record { fits = omega (arith, f .sfits) })
-plain (negsuc a) t f = absurd (true≢false t)
 
 above : (v : ℤ) → ltZ v (pos 0) ≡ false → min (natAbs v) 10000 ≡ held 10000 v
 above (pos a) t = refl

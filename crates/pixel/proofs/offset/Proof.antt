@@ -42,8 +42,11 @@ module _ (s : tie.Start) where
   top-fits : SFits w64 (toZ w64 (1024 * st) -ℤ rd (rd a *ℤ toZ w64 sg))
   top-fits = rw top-is (fits _ (omega (arith, top-le)))
 
+  top-back : rd (toZ w64 (1024 * st) -ℤ rd (rd a *ℤ toZ w64 sg)) ≡ pos (1024 * st) -ℤ a *ℤ pos sg
+  top-back = back _ top-fits ∙ top-is
+
   exact : shrZ (rd (toZ w64 (1024 * st) -ℤ rd (rd a *ℤ toZ w64 sg))) n ≡ offsetOf n sg st a
-  exact = ap (λ (x : ℤ). shrZ x n) (back _ top-fits ∙ top-is)
+  exact = ap (λ (x : ℤ). shrZ x n) top-back
 
   small : natAbs (offsetOf n sg st a) ≤ 7000000000000
   small = shr-le (pos (1024 * st) -ℤ a *ℤ pos sg) n 7000000000000 (s .pre .0) top-le
@@ -64,7 +67,7 @@ sub-floor-div : tie.Need-sub-floor-div
 sub-floor-div c = top-fits c
 
 floor-div-requires : tie.Need-floor-div-requires
-floor-div-requires c κs = search needs
+floor-div-requires c κs = (c .pre .0, rw (top-back c) (omega (arith, top-le c)))
 
 returns : tie.Need-returns
 returns c =

@@ -1,7 +1,7 @@
 -- `pixel::refined` meets its contract. Assumes nothing.
-use Prim.Native.Nat.{ℕ, _*_}
+use Prim.Native.Nat.{ℕ, _≤_, _*_}
 use mathlib.Core.Path.{_≡_, ap, ap₂, _∙_}
-use lib.IntN.{ℤ, pos, _+ℤ_, _*ℤ_}
+use lib.IntN.{ℤ, pos, natAbs, _+ℤ_, _*ℤ_}
 use lib.Signed.{shrZ}
 use native.Mathlib.Nat.{mul-le-mul}
 use native.Mathlib.Omega.{arith}
@@ -36,11 +36,17 @@ module _ (s : tie.Start) where
   sum-is : rd (rd sa *ℤ toZ w64 g) +ℤ rd sb ≡ sa *ℤ pos g +ℤ sb
   sum-is = ap₂ (λ (x y : ℤ). x +ℤ y) (back _ ag-fits ∙ ag-is) (rd-is sb (omega (arith, s .pre .4)))
 
+  sum-le : natAbs (sa *ℤ pos g +ℤ sb) ≤ 12992704000000 * n
+  sum-le = refined-top n g sa sb (s .pre .2) (s .pre .3) (s .pre .4)
+
   sum-fits : SFits w64 (rd (rd sa *ℤ toZ w64 g) +ℤ rd sb)
-  sum-fits = rw sum-is (fits _ (omega (arith, refined-top n g sa sb (s .pre .2) (s .pre .3) (s .pre .4))))
+  sum-fits = rw sum-is (fits _ (omega (arith, sum-le)))
+
+  sum-back : rd (rd (rd sa *ℤ toZ w64 g) +ℤ rd sb) ≡ sa *ℤ pos g +ℤ sb
+  sum-back = back _ sum-fits ∙ sum-is
 
   exact : shrZ (rd (rd (rd sa *ℤ toZ w64 g) +ℤ rd sb)) (1024 * n) ≡ shrZ (sa *ℤ pos g +ℤ sb) (1024 * n)
-  exact = ap (λ (x : ℤ). shrZ x (1024 * n)) (back _ sum-fits ∙ sum-is)
+  exact = ap (λ (x : ℤ). shrZ x (1024 * n)) sum-back
 
 cast-floor-div : tie.Need-cast-floor-div
 cast-floor-div c = search needs
@@ -55,7 +61,7 @@ mul-floor-div-2 : tie.Need-mul-floor-div-2
 mul-floor-div-2 c = search needs
 
 floor-div-requires : tie.Need-floor-div-requires
-floor-div-requires c κs = search needs
+floor-div-requires c κs = (omega (arith, c .pre .0), rw (sum-back c) (omega (arith, sum-le c)))
 
 hold-requires : tie.Need-hold-requires
 hold-requires c κs = search needs

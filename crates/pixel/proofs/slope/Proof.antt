@@ -51,8 +51,11 @@ module _ (s : tie.Start) where
   k-fits : SFits w64 (pos 1024 *ℤ rd p)
   k-fits = rw k-is (fits _ (omega (arith, z)))
 
+  k-back : rd (pos 1024 *ℤ rd p) ≡ pos 1024 *ℤ P n sg st sgt
+  k-back = back _ k-fits ∙ k-is
+
   exact : shrZ (rd (pos 1024 *ℤ rd p)) (Q n sg sgg e) ≡ slopeOf n sg st sgg sgt e
-  exact = ap (λ (a : ℤ). shrZ a (Q n sg sgg e)) (back _ k-fits ∙ k-is)
+  exact = ap (λ (a : ℤ). shrZ a (Q n sg sgg e)) k-back
 
 mul-p : tie.Need-mul-p
 mul-p c = omega (arith, z c)
@@ -91,7 +94,7 @@ add-floor-div : tie.Need-add-floor-div
 add-floor-div c = omega (arith, z c)
 
 floor-div-requires : tie.Need-floor-div-requires
-floor-div-requires c κs = (omega (arith, z c), omega (arith, z c))
+floor-div-requires c κs = (omega (arith, z c), rw (k-back c) (omega (arith, z c)))
 
 returns : tie.Need-returns
 returns c =

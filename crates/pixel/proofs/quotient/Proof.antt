@@ -1,0 +1,15 @@
+-- `pixel::quotient` meets its contract. Assumes nothing.
+use mathlib.Core.Path.{refl}
+use native.Mathlib.Nat.{div-le-self}
+use borrow.Author.Needs.{needs}
+use Rattle.pixel.proofs.quotient.Statement.{statement}
+use Rattle.pixel.proofs.quotient.Tie as tie
+
+div-result : tie.Need-div-result
+div-result c = search needs
+
+returns : tie.Need-returns
+returns c = (refl, div-le-self _ _)
+
+pub quotient-spec : {M : Type 1} → statement M
+quotient-spec = tie.close (tie.spec div-result returns)
