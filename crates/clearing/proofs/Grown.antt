@@ -78,6 +78,10 @@ high p n q end l = omega arith
 some : (p n q end : ℕ) → 0 < n → p + n ≤ end → 0 < min end (p + n + q) - (p - q)
 some p n q end s l = omega arith
 
+-- a rectangle that is grown by n, however the code comes by that number
+pub grown-by : (z : Shape) (c f : Rect) {m : ℕ} (n : ℕ) → f ≡ grownRect z m c → m ≡ n → f ≡ grownRect z n c
+grown-by z c f n e h = e ∙ ap (λ (k : ℕ). grownRect z k c) h
+
 -- f is the box, o is what is written
 module _ (z : Shape) (q : ℕ) (c : Rect) (i : GoodRect z c) (f o : Rect) (ef : f ≡ grownRect z (2 * q) c) (eo : o ≡ grownRect z q c) where
   abbrev box : Shape

@@ -1,12 +1,13 @@
 -- `clearing::replace_whole` meets its contract: box and rectangle are those of the grown new pixels, and the box sees far enough. Assumes nothing.
 use mathlib.Core.Path.{_∙_, ap}
 use mathlib.Core.List.{List}
-use Prim.Native.Nat.{ℕ}
+use Prim.Native.Nat.{ℕ, _*_}
 use Rattle.rules.specs.Shape.{described}
 use Rattle.rules.specs.Transmission.{refined}
 use Rattle.rules.specs.Picture.{cleared}
 use Rattle.rules.specs.Buffers.{pixels, values, entries, bytes, patch, near, replace, reach}
-use Rattle.clearing.proofs.Grown.{grown-given, grown-target, grown-covers, grown-entries, grown-bytes}
+use Rattle.clearing.proofs.Grown.{grown-by, grown-given, grown-target, grown-covers, grown-entries, grown-bytes}
+use native.Mathlib.Omega.{arith}
 use borrow.Author.Needs.{needs}
 use Rattle.clearing.proofs.replace_whole.Statement.{statement}
 use Rattle.clearing.proofs.replace_whole.Tie as tie
@@ -40,11 +41,13 @@ refresh-requires c κs =
     let l = s .pre .1 .0 in
     let f = g .before .grow in
     let o = g .grow2 in
+    let box = grown-by z (d .c) (f .result) (2 * q) (f .ensures) (omega arith) in
+    let rect = grown-by z (d .c) (o .result) q (o .ensures) (omega arith) in
     let p = c .before .before .before .before .before .before .before .before .before .before .paste in (
-      grown-given z q (d .c) i (f .result) (o .result) (f .ensures) (o .ensures) (d .k) (d .a) (d .frame .now) (p .last .0) (p .kept .0) (s .pre .0),
+      grown-given z q (d .c) i (f .result) (o .result) box rect (d .k) (d .a) (d .frame .now) (p .last .0) (p .kept .0) (s .pre .0),
       (
-        grown-target z q (d .c) i (f .result) (o .result) (f .ensures) (o .ensures) (d .map .now) (d .picture .now) (l .entries) (l .bytes),
-        (grown-covers z q (d .c) i (f .result) (o .result) (f .ensures) (o .ensures), l .space),
+        grown-target z q (d .c) i (f .result) (o .result) box rect (d .map .now) (d .picture .now) (l .entries) (l .bytes),
+        (grown-covers z q (d .c) i (f .result) (o .result) box rect, l .space),
       ),
     )
 
@@ -72,14 +75,16 @@ returns c =
     let i = s .pre .1 .1 .0 in
     let f = g .before .grow in
     let o = g .grow2 in
+    let box = grown-by z (d .c) (f .result) (2 * q) (f .ensures) (omega arith) in
+    let rect = grown-by z (d .c) (o .result) q (o .ensures) (omega arith) in
     let frame = c .before .before .before .before .before .before .before .before .before .before .before .before .before .before .before .before .paste .ensures in
     let m =
     r .ensures .0
-    ∙ grown-entries z q (d .c) i (f .result) (o .result) (f .ensures) (o .ensures) _ (values z (d .map .now))
+    ∙ grown-entries z q (d .c) i (f .result) (o .result) box rect _ (values z (d .map .now))
     ∙ ap (λ (l : List ℕ). entries z (patch (near q (d .c)) (refined z (d .k) (d .a) (pixels z l)) (values z (d .map .now)))) frame in
     let p =
     r .ensures .1 .0
-    ∙ grown-bytes z q (d .c) i (f .result) (o .result) (f .ensures) (o .ensures) _ (pixels z (d .picture .now))
+    ∙ grown-bytes z q (d .c) i (f .result) (o .result) box rect _ (pixels z (d .picture .now))
     ∙ ap (λ (l : List ℕ). bytes z (patch (near q (d .c)) (cleared z (d .k) (d .a) (pixels z l)) (pixels z (d .picture .now)))) frame in
     let w = r .ensures .1 .1 in
     λ i. record { frame = frame i; map = m i; picture = p i; work = w i }
