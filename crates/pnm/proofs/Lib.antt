@@ -6,4 +6,5 @@ pub mod Gaps
 pub mod Headers
 pub mod Passed
 pub mod Grammar
+pub mod Unique
 pub mod Cases
