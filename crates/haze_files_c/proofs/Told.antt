@@ -11,7 +11,7 @@ use Rattle.rules.specs.Promise.{said}
 use Rattle.depth.specs.Promise.{Depths}
 use Rattle.pnm.specs.declared.Head.{Head}
 use Rattle.pnm.specs.declared.Head.the-variants as head
-use Rattle.pnm.specs.Header.{good, headerOf}
+use Rattle.pnm.specs.Header.{good, headerOf, headSaid}
 use Rattle.ppm.specs.declared.Taken.{Taken}
 use Rattle.ppm.specs.declared.Taken.the-variants as taken
 use Rattle.ppm.specs.Promise.{size, pixels, refuseSize, refuseRead, frameOr, takenSaid, Sizes, Reads, Writes}
@@ -59,11 +59,11 @@ module _ {r : Taken} {n : ℕ} {z p : Size} (told : (n ≡ takenSaid r) × (z �
 header-by :
     (b : Bool) (w h top start : ℕ) (old : Heading) (across down most at : ℕ)
     → cond b (head.Is w h top start) head.Bad ≡ head.Is across down most at
-    → Returns (cond b 0 11) (heading w h top start) old 0 (heading across down most at)
+    → Returns (headSaid (cond b (head.Is w h top start) head.Bad)) (heading w h top start) old 0 (heading across down most at)
 header-by true w h top start old across down most at e = record { number = refl; after = cc }
 header-by false w h top start old across down most at e = absurd (let z : _≡_ {A = ℕ} 0 1 = cc in omega arith)
 
-no-header-by : (b : Bool) (w h top start : ℕ) (old : Heading) → cond b (head.Is w h top start) head.Bad ≡ head.Bad → Returns (cond b 0 11) (heading w h top start) old 11 old
+no-header-by : (b : Bool) (w h top start : ℕ) (old : Heading) → cond b (head.Is w h top start) head.Bad ≡ head.Bad → Returns (headSaid (cond b (head.Is w h top start) head.Bad)) (heading w h top start) old (headSaid head.Bad) old
 no-header-by true w h top start old e = absurd (let z : _≡_ {A = ℕ} 0 1 = cc in omega arith)
 no-header-by false w h top start old e = record { number = refl; after = refl }
 
@@ -72,6 +72,6 @@ module _ (kind : ℕ) (s : List ℕ) {r : Head} {old : Heading} (q : r ≡ heade
   unfolding headerOf
   header-read told = header-by (good kind s) _ _ _ _ _ _ _ _ _ (sym q ∙ told)
 
-  pub header-refused : r ≡ head.Bad → HeaderReturns kind s old 11 old
+  pub header-refused : r ≡ head.Bad → HeaderReturns kind s old (headSaid head.Bad) old
   unfolding headerOf
   header-refused told = no-header-by (good kind s) _ _ _ _ _ (sym q ∙ told)

@@ -1,10 +1,9 @@
 -- What the exported functions for files promise, as instances of the one promise. Assumes nothing.
 use Prim.Native.Nat.{ℕ, suc}
-use mathlib.Core.Bool.{cond}
 use mathlib.Core.List.{List}
 use lib.ListN.{length}
 use Rattle.rules.specs.declared.Size.{Size}
-use Rattle.pnm.specs.Header.{number, second, third, last, good}
+use Rattle.pnm.specs.Header.{number, second, third, last, headerOf, headSaid}
 use Rattle.ppm.specs.declared.Taken.{Taken}
 use Rattle.ppm.specs.declared.Taken.the-variants as taken
 use Rattle.ppm.specs.File.{file}
@@ -44,4 +43,4 @@ abbrev pub heading : ℕ → ℕ → ℕ → ℕ → Heading
 heading w h top start = record { size = record { w = w; h = h }; maximum = top; start = start }
 
 abbrev pub HeaderReturns : ℕ → List ℕ → Heading → ℕ → Heading → Type 0
-HeaderReturns kind s p = Returns (cond (good kind s) 0 11) (heading (number s 2) (number s (second s)) (number s (third s)) (suc (last s))) p
+HeaderReturns kind s p = Returns (headSaid (headerOf kind s)) (heading (number s 2) (number s (second s)) (number s (third s)) (suc (last s))) p

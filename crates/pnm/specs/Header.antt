@@ -82,3 +82,8 @@ good kind s = magic kind s && token s 2 && token s (second s) && token s (third 
 -- width, height, maximum, and where the pixels begin
 unfoldable pub headerOf : ℕ → List ℕ → Head
 headerOf kind s = cond (good kind s) (head.Is (number s 2) (number s (second s)) (number s (third s)) (suc (last s))) head.Bad
+
+-- the number that each case says
+abbrev pub headSaid : Head → ℕ
+headSaid (head.Is w h top start) = 0
+headSaid head.Bad = 11

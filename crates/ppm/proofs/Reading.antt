@@ -13,7 +13,7 @@ use Rattle.rules.specs.Refusals.{first, off, badSize, badFrame}
 use Rattle.rules.proofs.Good.{same-of, frame-good}
 use Rattle.fields.proofs.Every.{both}
 use Rattle.pnm.specs.declared.Head.the-variants as head
-use Rattle.pnm.specs.Header.{number, token, second, third, last, magic, closed, good, headerOf}
+use Rattle.pnm.specs.Header.{number, token, second, third, last, magic, closed, good, headerOf, headSaid}
 use Rattle.ppm.specs.Promise.{size, pixels, testsBody, testsLent, refuseSize, refuseRead, refuseWrite}
 use Rattle.ppm.specs.File.{long}
 use Rattle.ppm.proofs.Exactly.{read-exact, write-exact}
@@ -58,11 +58,11 @@ not-good kind s q = go (good kind s) q
 
 -- ---- the refusal number
 
-pub bad-size : (s : List ℕ) → headerOf 54 s ≡ head.Bad → refuseSize s ≡ 11
+pub bad-size : (s : List ℕ) → headerOf 54 s ≡ head.Bad → refuseSize s ≡ headSaid head.Bad
 unfolding refuseSize
 bad-size s q = rw (not-good 54 s q)
 
-pub bad-read : (s : List ℕ) (lent : ℕ) → headerOf 54 s ≡ head.Bad → refuseRead s lent ≡ 11
+pub bad-read : (s : List ℕ) (lent : ℕ) → headerOf 54 s ≡ head.Bad → refuseRead s lent ≡ headSaid head.Bad
 unfolding refuseRead
 bad-read s lent q = rw (not-good 54 s q)
 

@@ -10,7 +10,8 @@ use Rattle.rules.specs.Refusals.{Tests, first, off, badSize, badFrame}
 use Rattle.rules.specs.Promise.{or, answered, unless}
 use Rattle.ppm.specs.declared.Taken.{Taken}
 use Rattle.ppm.specs.declared.Taken.the-variants as taken
-use Rattle.pnm.specs.Header.{number, second, third, last, good}
+use Rattle.pnm.specs.declared.Head.the-variants as head
+use Rattle.pnm.specs.Header.{number, second, third, last, good, headSaid}
 use Rattle.ppm.specs.File.{file, long}
 
 -- ---- what a file says
@@ -36,10 +37,10 @@ testsLent z top n lent = testsBody z top n ++ (4, badFrame z lent) ∷ []
 
 -- the three calls; 54 is the digit 6
 abbrev pub testsSize : List ℕ → Tests
-testsSize s = (11, not (good 54 s)) ∷ testsBody (size s) (maximum s) (length (pixels s))
+testsSize s = (headSaid head.Bad, not (good 54 s)) ∷ testsBody (size s) (maximum s) (length (pixels s))
 
 abbrev pub testsRead : List ℕ → ℕ → Tests
-testsRead s lent = (11, not (good 54 s)) ∷ testsLent (size s) (maximum s) (length (pixels s)) lent
+testsRead s lent = (headSaid head.Bad, not (good 54 s)) ∷ testsLent (size s) (maximum s) (length (pixels s)) lent
 
 abbrev pub testsWrite : Size → ℕ → ℕ → Tests
 testsWrite z frame out = (1, badSize z) ∷ (3, badFrame z frame) ∷ (4, off out (long z)) ∷ []
