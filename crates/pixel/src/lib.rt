@@ -1,5 +1,6 @@
-// One pixel's arithmetic, as document 01 has it. Every whole-number division of the library is here, each in one function, and in 32 bits
-// where the numbers are small, since that is quicker.
+// One pixel's arithmetic, as document 01 has it. Every division that is made for each pixel is here, each in one function, and in 32 bits
+// where the numbers are small, since that is quicker. The library's other divisions: a share of the pixels once a call (`light`), two of doubles
+// (`bands`), halves in a search (`depth`), tenths of a number that is written (`fields`).
 ghost use mathlib.Core.Path.{_≡_};
 ghost use mathlib.Core.Bool.{true, false};
 ghost use Prim.Native.Nat.{_+_, _*_, _/_, _^_, _≤_, _<_};
