@@ -1,18 +1,28 @@
 -- Which pixel gives the light: a candidate that no candidate outshines in R+G+B, the lowest position of those that shine as much (`Chosen`). For a
--- good size and share there is one (`light-chosen`), it is the only one (`chosen-one`), and the light is its colour, with 1 for a channel of 0.
--- Assumes nothing.
+-- good size and share there is one (`light-chosen`), it is the only one (`chosen-one`), and the light is its colour, with 1 for a channel of 0. So it is
+-- of each call that keeps its promise (`lights-chosen`). Assumes nothing.
 use mathlib.Core.Path.{_≡_, refl, sym, ap, _∙_}
 use mathlib.Core.Bool.{Bool, true, false, cond}
 use mathlib.Core.List.{List, [], _∷_}
 use Prim.Native.Nat.{ℕ, zero, suc, _+_, _*_, _/_, _%_, _≤_, _<_, max}
+use native.Mathlib.Nat.{mul-pos}
 use native.Mathlib.Omega.{arith}
 use lib.ListN.{length}
 use lib.Dec.{ltb}
 use borrow.Author.Tests.{ltb-true, ltb-false}
-use Rattle.rules.specs.Shape.{Shape}
+use lib.IntN.{ℤ}
+use Rattle.rules.specs.Shape.{Shape, described}
+use Rattle.rules.specs.declared.Size.{Size}
 use Rattle.rules.specs.declared.Settings.{Settings}
 use Rattle.rules.specs.declared.Rgb.{Rgb}
+use Rattle.rules.specs.declared.Found.the-variants as found
 use Rattle.rules.specs.Window.{Plane}
+use Rattle.rules.specs.Buffers.{pixels}
+use Rattle.rules.specs.Refusals.{refuseLight}
+use Rattle.rules.specs.Promise.{foundSaid, Lights}
+use Rattle.rules.proofs.Good.{size-good, settings-good}
+use Rattle.rules.proofs.Exactly.{light-exact}
+use Rattle.rules.proofs.Answers.{said-found}
 use Rattle.rules.specs.Light.{at, m, candidates, best, brightest, light}
 use Rattle.rules.proofs.Order.{In, here, later, Rising, rising-less}
 use Rattle.rules.proofs.Candidates.{m-le, candidates-many, candidates-rising}
@@ -124,3 +134,18 @@ module _ (z : Shape) (k : Settings) (f : Plane Rgb) where
 
   pub chosen-one : (p q : ℕ) (a b : Rgb) → Chosen p a → Chosen q b → p ≡ q
   chosen-one p q a b c d = most-one shine (candidates z k f) p q (c .candidate) (d .candidate)
+
+-- of a call that keeps its promise and is not refused
+pub lights-chosen :
+    (z : Size) (k : Settings) (frame : List ℕ) (work work′ : List ℤ) (a : Rgb)
+    → Lights z k frame work (found.Light a) work′
+    → (p : ℕ) × Chosen (described z) k (pixels (described z) frame) p a
+lights-chosen z k frame work work′ a q =
+    let n = refuseLight z k (length frame) (length work) in
+    let b = light (described z) k (pixels (described z) frame) in
+    let free : n ≡ 0 = sym (said-found n b) ∙ ap foundSaid (sym (q .answer)) in
+    let none = light-exact z k (length frame) (length work) .free free in
+    let size = size-good z (none .0) in
+    let same : found.Light a ≡ found.Light b = rw free at (q .answer) in
+    let e : a ≡ b = cc in
+    rw e (light-chosen (described z) k (pixels (described z) frame) (mul-pos (size .across) (size .down)) (settings-good k (none .1 .0) .share-most))
