@@ -385,8 +385,8 @@ table =
       got = nats (recover 100 101 4000 ∷ recover 100 99 4000 ∷ recover 100 101 4001 ∷ recover 100 99 4001 ∷ []);
       want = nats (103 ∷ 97 ∷ 102 ∷ 98 ∷ []);
     }
-    -- radii that differ: map entries at two corners; then a light
-    ∷ record { no = 28; got = mapAt (shape 6 5) (radii 3 2) (rgb 200 180 190) (broad 90) (0 ∷ 29 ∷ []); want = nats (6867 ∷ 7078 ∷ []) }
+    -- radii that differ: map entries at a corner and beside it; then a light
+    ∷ record { no = 28; got = mapAt (shape 6 5) (radii 3 2) (rgb 200 180 190) (broad 90) (0 ∷ 7 ∷ []); want = nats (6867 ∷ 6910 ∷ []) }
     ∷ record { no = 28; got = lit (shape 6 2) (set 2 3 9500 59 1000 300) (broad 36); want = nats (167 ∷ 204 ∷ 241 ∷ []) }
     -- a light with one channel of 0
     ∷ record {
