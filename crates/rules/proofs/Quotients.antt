@@ -70,17 +70,17 @@ floor-one (negsuc a) q (negsuc n) h =
 
 -- ---- slope and offset of a window, over the sums of its samples
 
-abbrev Σg : List Sample → ℕ
+abbrev pub Σg : List Sample → ℕ
 Σg l = total (λ i. i .g) l
 
-abbrev Σt : List Sample → ℕ
+abbrev pub Σt : List Sample → ℕ
 Σt l = total (λ i. i .t) l
 
 -- P and Q in ℤ, where nothing is cut off
-abbrev PZ : List Sample → ℤ
+abbrev pub PZ : List Sample → ℤ
 PZ l = pos (length l * total (λ i. i .g * i .t) l) -ℤ pos (Σg l * Σt l)
 
-abbrev QZ : ℕ → List Sample → ℤ
+abbrev pub QZ : ℕ → List Sample → ℤ
 QZ e l = pos (length l * total (λ i. i .g * i .g) l) -ℤ pos (Σg l * Σg l) +ℤ pos (length l * length l * e)
 
 -- the slope is 1024·P / Q, the offset is (1024·St − slope·Sg) / n, both rounded down
