@@ -519,4 +519,23 @@ table =
           ∷ []);
       want = nats (1 ∷ 4 ∷ 4 ∷ 1 ∷ 6 ∷ []);
     }
+    -- white, black and a colour between, under the brightest and the darkest light
+    ∷ record {
+      no = 41;
+      got = under (shape 3 1) (radii 0 1) (rgb 255 255 255) (255 ∷ 255 ∷ 255 ∷ 0 ∷ 0 ∷ 0 ∷ 254 ∷ 255 ∷ 1 ∷ []);
+      want = nats (1851 ∷ 10000 ∷ 7939 ∷ 255 ∷ 255 ∷ 255 ∷ 0 ∷ 0 ∷ 0 ∷ 254 ∷ 255 ∷ 0 ∷ []);
+    }
+    ∷ record {
+      no = 41;
+      got = under (shape 3 1) (radii 0 1) (rgb 1 1 1) (255 ∷ 255 ∷ 255 ∷ 0 ∷ 0 ∷ 0 ∷ 254 ∷ 255 ∷ 1 ∷ []);
+      want = nats (0 ∷ 9770 ∷ 1520 ∷ 255 ∷ 255 ∷ 255 ∷ 0 ∷ 0 ∷ 0 ∷ 255 ∷ 255 ∷ 1 ∷ []);
+    }
+    -- other omegas
+    ∷ record {
+      no = 42;
+      got = under (shape 1 1) (set 0 0 1 59 1000 1) (rgb 200 180 190) (150 ∷ 151 ∷ 152 ∷ [])
+          ++ under (shape 1 1) (set 0 0 1234 59 1000 1) (rgb 200 180 190) (150 ∷ 151 ∷ 152 ∷ [])
+          ++ under (shape 1 1) (set 0 0 10000 59 1000 1) (rgb 200 180 190) (150 ∷ 151 ∷ 152 ∷ []);
+      want = nats (10000 ∷ 150 ∷ 151 ∷ 152 ∷ 9075 ∷ 145 ∷ 148 ∷ 148 ∷ 2500 ∷ 0 ∷ 64 ∷ 38 ∷ []);
+    }
     ∷ []
