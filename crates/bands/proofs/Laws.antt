@@ -1,11 +1,13 @@
--- What the loops over a band need of sum and minimum; and the band as a part of its map. Assumes nothing.
-use mathlib.Core.Path.{_≡_, ap}
+-- What the loops over a band need of sum and minimum; a quotient by its numbers; and the band as a part of its map. Assumes nothing.
+use mathlib.Core.Path.{_≡_, ap, ap₂, _∙_}
 use mathlib.Core.List.{List, [], _∷_}
 use Prim.Native.Nat.{ℕ, _+_, _-_, _*_, min, _≤_, _<_}
 use native.Mathlib.Nat.{mul-le-mul-right}
 use native.Mathlib.Omega.{arith}
 use lib.ListN.{length, take, drop, length-take, length-drop}
+use lib.Ieee.{Float}
 use Rattle.rules.specs.Window.{least}
+use Rattle.rules.specs.Picture.{quotient}
 
 pub plus-assoc : (a b c : ℕ) → (a + b) + c ≡ a + (b + c)
 plus-assoc a b c = omega arith
@@ -16,6 +18,10 @@ min-assoc a b c = omega arith
 pub least-le : (l : List ℕ) → least 10000 l ≤ 10000
 least-le [] = omega arith
 least-le (t ∷ l) = omega (arith, least-le l)
+
+-- a quotient, however the code comes by its two numbers
+pub quotient-of : {m d : ℕ} (r : Float) (n e : ℕ) → r ≡ quotient m d → m ≡ n → d ≡ e → r ≡ quotient n e
+quotient-of r n e h hn he = h ∙ ap₂ quotient hn he
 
 -- ---- the rows from .. to, as one part of the map
 

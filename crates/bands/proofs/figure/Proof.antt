@@ -5,8 +5,9 @@ use Prim.Native.Nat.{ℕ, _-_, _*_, _≤_}
 use native.Mathlib.Omega.{arith}
 use lib.ListN.{length, take, drop}
 use borrow.Author.Needs.{needs}
-use Rattle.rules.specs.Picture.{quotient, figureOf, figure as figureIn}
-use Rattle.bands.proofs.Laws.{Ends, ends, part-le}
+use Rattle.rules.specs.Window.{total, least}
+use Rattle.rules.specs.Picture.{figureOf, figure as figureIn}
+use Rattle.bands.proofs.Laws.{Ends, ends, part-le, quotient-of}
 use Rattle.bands.proofs.figure.Statement.{statement}
 use Rattle.bands.proofs.figure.Tie as tie
 
@@ -68,9 +69,10 @@ unfolding figureIn
 returns c =
     let d = c .before .before in
     let s = d .before .before .before .before in
-    let mean = d .divided .ensures ∙ ap (λ (n : ℕ). quotient n (10000 * length (part s))) (d .before .sum-of .ensures .0) in
-    let least = c .divided2 .ensures ∙ ap (λ (n : ℕ). quotient n 10000) (c .before .least-of .ensures .0) in
-    (λ i. record { mean = mean i; least = least i })
+    let l = part s in
+    let mean = quotient-of _ (total (λ t. t) l) (10000 * length l) (d .divided .ensures) (omega (arith, d .before .sum-of .ensures .0)) (omega arith) in
+    let low = quotient-of _ (least 10000 l) 10000 (c .divided2 .ensures) (omega (arith, c .before .least-of .ensures .0)) (omega arith) in
+    (λ i. record { mean = mean i; least = low i })
     ∙ ap (λ (n : ℕ). figureOf (take n (drop (start s) (s .args .map .now)))) (edges s .count)
 
 pub figure-spec : {M : Type 1} → statement M
