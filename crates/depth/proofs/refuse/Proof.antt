@@ -34,7 +34,16 @@ first-of-requires c κs = tt
 
 returns-2 : tie.Need-returns-2
 unfolding refuseDepths
-returns-2 c = rw (small (c .before .before .before .before .before)) (cc)
+returns-2 c =
+    let e = c .before .before in
+    rw (
+      small (e .before .before .before),
+      c .first-of .ensures,
+      c .before .wrong-entries .ensures,
+      e .either .ensures,
+      e .before .wrong-map2 .ensures,
+      e .before .before .wrong-map .ensures,
+    )
 
 pub refuse-spec : {M : Type 1} → statement M
 refuse-spec =

@@ -32,7 +32,20 @@ either-requires-5 c κs = tt
 
 returns : tie.Need-returns
 unfolding badSettings
-returns c = cc
+returns c =
+    let e = c .before .before in
+    let first = e .before .before .before .before in
+    rw (
+      c .either5 .ensures,
+      c .before .outside4 .ensures,
+      e .either4 .ensures,
+      e .before .outside3 .ensures,
+      e .before .before .either3 .ensures,
+      e .before .before .before .outside2 .ensures,
+      first .either2 .ensures,
+      first .before .outside .ensures,
+      first .before .before .either .ensures,
+    )
 
 pub wrong-settings-spec : {M : Type 1} → statement M
 wrong-settings-spec =

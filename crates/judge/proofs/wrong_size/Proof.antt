@@ -23,7 +23,7 @@ unfolding badSize
 near z e = rw e
 
 tested : (c : tie.After-either) → sides (c .before .before .before .args .z) ≡ c .either .result
-tested c = cc
+tested c = rw (c .either .ensures, c .before .outside2 .ensures, c .before .before .outside .ensures)
 
 outside-requires : tie.Need-outside-requires
 outside-requires c κs = tt
