@@ -29,3 +29,15 @@ pub mod Run
 pub mod Pasted
 pub mod Frames
 pub mod Cases
+pub mod Signs
+pub mod Worth
+pub mod WorthOrder
+pub mod WorthHeld
+pub mod Windowed
+pub mod WholeLine
+pub mod WholeSums
+pub mod WholeEntry
+pub mod WholeCoarse
+pub mod WholeBytes
+pub mod WholeMet
+pub mod WholeNumbers

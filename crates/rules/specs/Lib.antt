@@ -13,3 +13,5 @@ pub mod Refusals
 pub mod Promise
 pub mod Run
 pub mod Cases
+pub mod Fraction
+pub mod Exact
