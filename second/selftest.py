@@ -6,7 +6,8 @@ document 02 gives it, that request's rounding and its bound, the order of
 refusals of each call, the edges of each range, and comparisons on seeded random
 frames: the fast path with the plain path, Replace with a fresh Clear, the text
 with a second reader made of patterns.  The checks of PPM files stand in
-ppmtest.py, those of depths in depthtest.py, those of settings in settingtest.py.
+ppmtest.py, those of depths in depthtest.py, those of settings in settingtest.py,
+those of what the whole numbers cost in exacttest.py.
 
 It prints one line for each group.  Where a check fails it prints what failed
 and ends with status 1.
@@ -29,6 +30,7 @@ HERE = os.path.dirname(os.path.abspath(__file__))
 sys.path.insert(0, HERE)
 
 import depthtest
+import exacttest
 import ppmtest
 import rules
 import settingtest
@@ -1004,7 +1006,7 @@ GROUPS = (
     ("text, refusals by hand", group_text_refusals),
     ("text, random edits", group_text_random),
     ("text, largest frame", group_text_largest),
-) + ppmtest.GROUPS + depthtest.GROUPS + settingtest.GROUPS
+) + exacttest.GROUPS + ppmtest.GROUPS + depthtest.GROUPS + settingtest.GROUPS
 
 
 def run_group(name, group):

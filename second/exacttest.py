@@ -1,0 +1,127 @@
+"""What the whole numbers cost, which selftest.py runs.
+
+The equations of document 001 are written here a second time, from the paper, on
+exact fractions, and the whole numbers of rules.py are held to the bounds that
+are proved: of a coarse value, a map entry, a cleared byte and a hazed byte.  The
+frames that come near the bounds are the proved ones.  Units are document 01's:
+a guide of 0 to 765, transmissions in ten-thousandths.
+"""
+
+import random
+from fractions import Fraction
+
+import rules
+
+ENTRY_UNDER = 1 + Fraction(766, 1024)
+ENTRY_OVER = Fraction(765, 1024)
+HALF = Fraction(1, 2)
+
+
+# ---------------------------------------------------------------------------
+# The paper
+# ---------------------------------------------------------------------------
+
+def around(size, q, p):
+    """The places of the window of radius q about the place p."""
+    W, H = size
+    y, x = divmod(p, W)
+    return [v * W + u for v in range(max(0, y - q), min(H, y + q + 1))
+            for u in range(max(0, x - q), min(W, x + q + 1))]
+
+
+def mean(values):
+    values = list(values)
+    return Fraction(sum(values), len(values))
+
+
+def coarse(size, s, omega, light, frame, p):
+    """Equation 14; a ratio is at most 1."""
+    least = min(min(Fraction(frame[3 * o + c], light[c]), Fraction(1))
+                for o in around(size, s, p) for c in range(3))
+    return 10000 * (1 - Fraction(omega, 10000) * least)
+
+
+def filtered(size, r, E, I, t):
+    """Equations 17, 18 and 19."""
+    a, b = [], []
+    for k in range(len(I)):
+        window = around(size, r, k)
+        mu, mean_t = mean(I[i] for i in window), mean(t[i] for i in window)
+        variance = mean(I[i] ** 2 for i in window) - mu ** 2
+        a.append((mean(I[i] * t[i] for i in window) - mu * mean_t) / (variance + E))
+        b.append(mean_t - a[-1] * mu)
+    return [mean(a[k] for k in around(size, r, i)) * I[i] + mean(b[k] for k in around(size, r, i))
+            for i in range(len(I))]
+
+
+def recovered(I, A, t):
+    """Equation 20, with t the larger of transmission and floor."""
+    return (I - A) / Fraction(t, 10000) + A
+
+
+def hazed(J, A, t):
+    """Equation 4."""
+    return J * Fraction(t, 10000) + A * (1 - Fraction(t, 10000))
+
+
+def held(value, most):
+    return max(Fraction(0), min(Fraction(most), value))
+
+
+# ---------------------------------------------------------------------------
+# The checks
+# ---------------------------------------------------------------------------
+
+def errors(size, settings, light, frame):
+    """How much too high each coarse value, each entry and each byte is."""
+    s, r, omega, E, t0, _ = settings
+    whole = rules.coarse_values(size, settings, light, frame)
+    map, picture = rules.clear_by_rules(size, settings, light, frame)
+    guide = [sum(frame[3 * p:3 * p + 3]) for p in range(len(map))]
+    exact = filtered(size, r, E, guide, whole)
+    return ([whole[p] - coarse(size, s, omega, light, frame, p) for p in range(len(map))],
+            [map[p] - held(exact[p], 10000) for p in range(len(map))],
+            [picture[q] - held(recovered(frame[q], light[q % 3], max(map[q // 3], t0)), 255)
+             for q in range(len(picture))])
+
+
+def group_bounds(same):
+    chance = random.Random(20117)
+    for turn in range(150):
+        size = (chance.randrange(1, 6), chance.randrange(1, 5))
+        palette = [chance.choice((0, 255, chance.randrange(256))) for _ in range(1 + turn % 5)]
+        frame = [chance.choice(palette) for _ in range(3 * size[0] * size[1])]
+        settings = (chance.randrange(3), chance.randrange(4), chance.randrange(1, 10001),
+                    chance.choice((1, 59, 585225)), chance.randrange(1, 10001), 1)
+        light = tuple(chance.choice((1, 255, chance.randrange(1, 256))) for _ in range(3))
+        coarse_off, entries_off, bytes_off = errors(size, settings, light, frame)
+        what = "size %s, settings %s, light %s, frame %s: " % (size, settings, light, frame)
+        over = 1 + Fraction(settings[2], 10000)
+        same(what + "coarse values", all(0 <= off < over for off in coarse_off), True)
+        same(what + "entries", all(-ENTRY_UNDER < off < ENTRY_OVER for off in entries_off), True)
+        same(what + "bytes", all(-HALF <= off <= HALF for off in bytes_off), True)
+    for turn in range(2000):
+        J, A, t = chance.randrange(256), chance.randrange(1, 256), chance.randrange(10001)
+        _, (byte, *_) = rules.haze((1, 1), (A, A, A), [J, J, J], [t], 3)
+        same("haze %d under %d at %d" % (J, A, t), abs(byte - hazed(J, A, t)) <= HALF, True)
+
+
+def group_near(same):
+    usual = (0, 30, 7614, 59, 1000, 1)
+    for first, rest, low, high in ((255, 0, -ENTRY_UNDER, Fraction(-1719, 1000)),
+                                   (0, 255, Fraction(719, 1000), ENTRY_OVER)):
+        _, entries_off, _ = errors((31, 1), usual, (200,) * 3, [first] * 3 + [rest] * 90)
+        same("one %d among %d" % (first, rest), low < entries_off[0] < high, True)
+    coarse_off, _, _ = errors((1, 1), (0, 30, 9189, 59, 1000, 1), (247,) * 3, [212] * 3)
+    same("212 under 247", Fraction(1914, 1000) < coarse_off[0] < Fraction(19189, 10000), True)
+    same("cleared half", rules.cleared_channel(2, 1, 4000) - recovered(2, 1, 4000), HALF)
+    same("hazed half", rules.haze((1, 1), (1, 1, 1), [2, 2, 2], [5000], 3)[1][0] - hazed(2, 1, 5000), HALF)
+    size, frame = (2, 1), [200, 200, 200, 100, 150, 180]
+    whole = rules.coarse_values(size, (0, 30, 9500, 59, 1000, 1), (200,) * 3, frame)
+    same("P3", filtered(size, 30, 59, [600, 430], whole)[0], Fraction(3782125, 7284))
+
+
+GROUPS = (
+    ("exact, the bounds on seeded frames", group_bounds),
+    ("exact, frames that come near", group_near),
+)
