@@ -39,5 +39,6 @@ pub mod WholeSums
 pub mod WholeEntry
 pub mod WholeCoarse
 pub mod WholeBytes
+pub mod WholeGain
 pub mod WholeMet
 pub mod WholeNumbers

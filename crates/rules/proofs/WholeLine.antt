@@ -31,13 +31,13 @@ module _ (e : ℕ) (l : List Sample) (some : 0 < length l) (above : 0 < e) where
       let k = spread l in
       worth-as _ _ _ (worth-add (worth-sub (worth-scale (length l) II) (worth-mul g g)) (worth-over e (length l * length l))) (omega (arith, k)) refl
 
-  slope-worth : Worth (slopeᶠ e l) (length l * Sgt l) (Sg l * St l) (Q (length l) (Sg l) (Sgg l) e)
+  pub slope-worth : Worth (slopeᶠ e l) (length l * Sgt l) (Sg l * St l) (Q (length l) (Sg l) (Sgg l) e)
   unfolding slopeᶠ
   slope-worth =
       worth-cancel (length l * length l) (mul-pos some some)
       (worth-as _ _ _ (worth-div cov var (Q-pos e l some above)) refl (mul-comm (length l * length l) (Q (length l) (Sg l) (Sgg l) e)))
 
-  offset-worth : Worth (offsetᶠ e l) (St l * Q (length l) (Sg l) (Sgg l) e + Sg l * St l * Sg l) (length l * Sgt l * Sg l) (length l * Q (length l) (Sg l) (Sgg l) e)
+  pub offset-worth : Worth (offsetᶠ e l) (St l * Q (length l) (Sg l) (Sgg l) e + Sg l * St l * Sg l) (length l * Sgt l * Sg l) (length l * Q (length l) (Sg l) (Sgg l) e)
   unfolding offsetᶠ
   offset-worth =
       let g = worth-mean I (λ i. i .g) (λ i. worth-whole (i .g)) l some in
