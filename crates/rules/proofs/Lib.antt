@@ -39,6 +39,9 @@ pub mod WholeSums
 pub mod WholeEntry
 pub mod WholeCoarse
 pub mod WholeBytes
+pub mod WholeLean
+pub mod WholeSteps
 pub mod WholeGain
+pub mod WholeFilter
 pub mod WholeMet
 pub mod WholeNumbers

@@ -18,7 +18,7 @@ use Rattle.rules.specs.Fraction.{Fraction, whole, _+ᶠ_, _*ᶠ_, _/ᶠ_
 use Rattle.rules.specs.Exact.{slopeᶠ, offsetᶠ, Lineᶠ, lineᶠ, fitᶠ, refineᶠ, refinedᶠ, entryUnder, entryOver}
 use Rattle.rules.proofs.Fold.{fold-map}
 use Rattle.rules.proofs.Signs.{up, down, plus-is, times-is, shr-is}
-use Rattle.rules.proofs.Worth.{Worth, worth-as, worth-scale, worth-whole, worth-over, worth-part, worth-add, worth-mul, worth-div}
+use Rattle.rules.proofs.Worth.{Worth, worth-as, worth-scale, worth-whole, worth-over, worth-part, worth-add, worth-line}
 use Rattle.rules.proofs.WorthOrder.{lt-worth}
 use Rattle.rules.proofs.WorthHeld.{Held, worth-hold}
 use Rattle.rules.proofs.Windowed.{All, none, more, all-window, window-some, map-window}
@@ -49,12 +49,6 @@ module _ (g N D : ℕ) (hN : 0 < N) (hD : 0 < D) where
   under-is c x p q x′ h = omega (arith, h)
 
   module _ (A B : Fraction) (a b : ℤ) (m : Near g N A B a b D) where
-    exactly : Worth (A /ᶠ whole N *ᶠ whole g +ᶠ B /ᶠ whole N) (m .ax * g + m .bx) (m .ay * g + m .by) (D * N)
-    exactly =
-        let s = worth-mul (worth-div (m .slopes) (worth-whole N) hN) (worth-whole g) in
-        let o = worth-div (m .offsets) (worth-whole N) hN in
-        worth-add (worth-as (m .ax * g) (m .ay * g) (D * N) s (omega arith) (omega arith)) (worth-as (m .bx) (m .by) (D * N) o (omega arith) refl)
-
     balance : up (a *ℤ pos g +ℤ b) + (down a * g + down b) ≡ up a * g + up b + down (a *ℤ pos g +ℤ b)
     balance = omega (arith, times-is a (pos g), plus-is (a *ℤ pos g) b)
 
@@ -64,17 +58,18 @@ module _ (g N D : ℕ) (hN : 0 < N) (hD : 0 < D) where
         let c = mul-pos hD hN in
         let v : ℤ = shrZ (a *ℤ pos g +ℤ b) (1024 * N) in
         let h = balanced (up a) (down a) (up b) (down b) _ _ balance in
-        worth-hold 10000 (D * N) 1024 1790 765 1 v (omega arith) c (omega (arith, c)) (omega (arith, c)) exactly
+        worth-hold 10000 (D * N) 1024 1790 765 1 v (omega arith) c (omega (arith, c)) (omega (arith, c)) (worth-line g N hN (m .slopes) (m .offsets))
         (last-low _ _ _ _ N (D * N) _ _ _ _ h (under-is 766 _ _ _ _ (m .low)) (least-of _ _ (up v) (down v) (f .least)))
         (last-high _ _ _ _ N (D * N) _ _ _ _ h hN (under-is 765 _ _ _ _ (m .high)) (most-of _ _ (up v) (down v) (f .most)))
 
 -- ---- from sums to windows
 
-refineᶠ-is : (e g : ℕ) (ls : List (List Sample))
-    → refineᶠ g (map (lineᶠ e) ls) ≡ sum (slopeᶠ e) ls /ᶠ whole (length ls) *ᶠ whole g +ᶠ sum (offsetᶠ e) ls /ᶠ whole (length ls)
-unfolding refineᶠ lineᶠ
-refineᶠ-is e g ls =
-    rw (← fold-map (λ (i : Lineᶠ) s. i .a +ᶠ s) (whole 0) (lineᶠ e) ls, ← fold-map (λ (i : Lineᶠ) s. i .b +ᶠ s) (whole 0) (lineᶠ e) ls, length-map ls (lineᶠ e))
+pub refineᶠ-is : {W : Type 0} (a b : W → Fraction) (g : ℕ) (ls : List W)
+    → refineᶠ g (map (λ (w : W). record { a = a w; b = b w }) ls) ≡ sum a ls /ᶠ whole (length ls) *ᶠ whole g +ᶠ sum b ls /ᶠ whole (length ls)
+unfolding refineᶠ
+refineᶠ-is {W} a b g ls =
+    let f : W → Lineᶠ = λ w. record { a = a w; b = b w } in
+    rw (← fold-map (λ (i : Lineᶠ) s. i .a +ᶠ s) (whole 0) f ls, ← fold-map (λ (i : Lineᶠ) s. i .b +ᶠ s) (whole 0) f ls, length-map ls f)
 
 refine-is : (e g : ℕ) (ls : List (List Sample)) → refine g (map (line e) ls) ≡ refineOf (length ls) (totalZ (slope e) ls) (totalZ (offset e) ls) g
 unfolding refine line
@@ -96,7 +91,7 @@ unfolding sample
 window-full z k a f bytes v u hv hu =
     record {
       some = window-some z (k .r) (sample z k a f) v u hv hu;
-      most = guides _ (all-window (λ (i : Sample). i .g ≤ 765) z (k .r) (sample z k a f) v u hv hu (λ v′ u′ _ _. bytes v′ u′));
+      most = guides _ (all-window (λ (i : Sample). i .g ≤ 765) z (k .r) (sample z k a f) v u (λ v′ u′ _. bytes v′ u′));
     }
 
 -- ---- within any bounds that are at least 1790 and 765 of 1024
@@ -120,10 +115,11 @@ module _ {under over : Fraction} (m n : ℕ) (wm : Worth under m 0 1024) (wn : W
   -- the filter over any windows that have pixels
   filter-within : (e g : ℕ) → 0 < e → g ≤ 765 → (ls : List (List Sample)) → 0 < length ls → All Full ls
       → Off under over (refine g (map (line e) ls)) (heldᶠ 10000 (refineᶠ g (map (lineᶠ e) ls)))
+  unfolding lineᶠ
   filter-within e g he hg ls hN f =
       let hD = bottoms-pos e he ls f in
       let w = windows-near e g he hg ls f in
-      rw (refineᶠ-is e g ls, refine-is e g ls) (off _ (bottoms e ls * length ls) _ (mul-pos hD hN) (entry-held g (length ls) (bottoms e ls) hN hD _ _ _ _ w))
+      rw (refineᶠ-is (slopeᶠ e) (offsetᶠ e) g ls, refine-is e g ls) (off _ (bottoms e ls * length ls) _ (mul-pos hD hN) (entry-held g (length ls) (bottoms e ls) hN hD _ _ _ _ w))
 
   entry-within : (z : Shape) (k : Settings) (a : Rgb) (f : Plane Rgb) (y x : ℕ) → 0 < k .e → ((v u : ℕ) → guide (f v u) ≤ 765) → y < z .h → x < z .w
       → Off under over (refined z k a f y x) (heldᶠ 10000 (refinedᶠ z k a f y x))
@@ -132,7 +128,7 @@ module _ {under over : Fraction} (m n : ℕ) (wm : Worth under m 0 1024) (wn : W
       let W : Plane (List Sample) = window z (k .r) (sample z k a f) in
       rw (map-window (line (k .e)) z (k .r) W y x, map-window (lineᶠ (k .e)) z (k .r) W y x) at
       (filter-within (k .e) (guide (f y x)) he (bytes y x) (window z (k .r) W y x) (window-some z (k .r) W y x hy hx)
-      (all-window Full z (k .r) W y x hy hx (window-full z k a f bytes)))
+      (all-window Full z (k .r) W y x (λ v u w. window-full z k a f bytes v u (w .row) (w .column))))
 
 module _ (z : Shape) (k : Settings) (a : Rgb) (f : Plane Rgb) (y x : ℕ) (he : 0 < k .e) (bytes : (v u : ℕ) → guide (f v u) ≤ 765) (hy : y < z .h) (hx : x < z .w) where
   pub entry-off : Off entryUnder entryOver (refined z k a f y x) (heldᶠ 10000 (refinedᶠ z k a f y x))

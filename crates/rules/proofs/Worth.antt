@@ -127,3 +127,10 @@ worth-mean f g h l n = worth-as (total g l) 0 (length l) (worth-div (worth-sum f
 
 pub worth-times : (a b : ℕ) → Worth (whole a *ᶠ whole b) (a * b) 0 1
 worth-times a b = worth-as (a * b) 0 1 (worth-mul (worth-whole a) (worth-whole b)) (omega arith) (omega arith)
+
+-- equation 19, from sums of N slopes and of N offsets
+pub worth-line : {p q : Fraction} {x y x′ y′ D : ℕ} (g N : ℕ) → 0 < N → Worth p x y D → Worth q x′ y′ D
+    → Worth (p /ᶠ whole N *ᶠ whole g +ᶠ q /ᶠ whole N) (x * g + x′) (y * g + y′) (D * N)
+worth-line {p} {q} {x} {y} {x′} {y′} {D} g N h w v =
+    let s = worth-mul (worth-div w (worth-whole N) h) (worth-whole g) in
+    worth-add (worth-as (x * g) (y * g) (D * N) s (omega arith) (omega arith)) (worth-as x′ y′ (D * N) (worth-div v (worth-whole N) h) (omega arith) refl)
