@@ -41,16 +41,19 @@ def coarse(size, s, omega, light, frame, p):
     return 10000 * (1 - Fraction(omega, 10000) * least)
 
 
+def line(E, I, t):
+    """Equations 17 and 18, of the guides and transmissions of a window."""
+    mu, mean_t = mean(I), mean(t)
+    variance = mean(i ** 2 for i in I) - mu ** 2
+    a = (mean(i * j for i, j in zip(I, t)) - mu * mean_t) / (variance + E)
+    return a, mean_t - a * mu
+
+
 def filtered(size, r, E, I, t):
-    """Equations 17, 18 and 19."""
-    a, b = [], []
-    for k in range(len(I)):
-        window = around(size, r, k)
-        mu, mean_t = mean(I[i] for i in window), mean(t[i] for i in window)
-        variance = mean(I[i] ** 2 for i in window) - mu ** 2
-        a.append((mean(I[i] * t[i] for i in window) - mu * mean_t) / (variance + E))
-        b.append(mean_t - a[-1] * mu)
-    return [mean(a[k] for k in around(size, r, i)) * I[i] + mean(b[k] for k in around(size, r, i))
+    """Equation 19, at each place."""
+    windows = [around(size, r, k) for k in range(len(I))]
+    lines = [line(E, [I[i] for i in window], [t[i] for i in window]) for window in windows]
+    return [mean(lines[k][0] for k in windows[i]) * I[i] + mean(lines[k][1] for k in windows[i])
             for i in range(len(I))]
 
 
@@ -106,6 +109,27 @@ def group_bounds(same):
         same("haze %d under %d at %d" % (J, A, t), abs(byte - hazed(J, A, t)) <= HALF, True)
 
 
+def group_gain(same):
+    """How a coarse value's error goes through the filter."""
+    chance = random.Random(20118)
+    for turn in range(60):
+        size, r, E = (chance.randrange(1, 6), chance.randrange(1, 5)), chance.randrange(4), chance.choice((1, 59))
+        count = size[0] * size[1]
+        guide = [chance.choice((0, 30, 765)) for _ in range(count)]
+        one = [chance.randrange(10001) for _ in range(count)]
+        other = [t - Fraction(chance.randrange(2000), 1000) for t in one]
+        apart = [abs(a - b) for a, b in zip(filtered(size, r, E, guide, one), filtered(size, r, E, guide, other))]
+        what = "size %s, r %d, E %d, guides %s: " % (size, r, E, guide)
+        same(what + "2 apart", all(off <= 2 * (2 * r + 2) for off in apart), True)
+    # One white pixel among 1860 of 0 and 1860 of 10, all in one window.
+    pixels = [255] + [0] * 1860 + [10] * 1860
+    whole = {i: rules.coarse_transmission(9733, rules.ratio(i, 188)) for i in (255, 0, 10)}
+    exact = {i: coarse((1, 1), 0, 9733, (188,) * 3, [i] * 3, 0) for i in (255, 0, 10)}
+    same("less than 2 too high", all(0 <= whole[i] - exact[i] < 2 for i in whole), True)
+    a, b = line(59, [3 * i for i in pixels], [whole[i] - exact[i] for i in pixels])
+    same("22.7 too high", Fraction(2269, 100) < a * 765 + b < Fraction(227, 10), True)
+
+
 def group_near(same):
     usual = (0, 30, 7614, 59, 1000, 1)
     for first, rest, low, high in ((255, 0, -ENTRY_UNDER, Fraction(-1719, 1000)),
@@ -123,5 +147,6 @@ def group_near(same):
 
 GROUPS = (
     ("exact, the bounds on seeded frames", group_bounds),
+    ("exact, the filter's gain", group_gain),
     ("exact, frames that come near", group_near),
 )

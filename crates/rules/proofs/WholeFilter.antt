@@ -97,8 +97,18 @@ module _ (z : Shape) (r e : ℕ) (f : Plane Rgb) (t u : Plane ℕ) where
   means s y x = mapped s y x ∙ refineᶠ-is (λ (l : List Pair). slopeᶠ e (map s l)) (λ l. offsetᶠ e (map s l)) (guide (f y x)) (window z r (window z r (pairs f t u)) y x)
 
   module _ (h : ℕ) (above : 0 < e) (p : (v w : ℕ) → t v w ≤ u v w + h) (q : (v w : ℕ) → u v w ≤ t v w + h) (y x : ℕ) (hy : y < z .h) (hx : x < z .w) where
-    good : (v w : ℕ) → Within z r y x v w
-        → Good ((2 * r + 2) * h) (guide (f y x)) (λ l. slopeᶠ e (map left l)) (λ l. offsetᶠ e (map left l)) (λ l. slopeᶠ e (map right l)) (λ l. offsetᶠ e (map right l)) (λ l. length (map left l) * Q (length (map left l)) (Sg (map left l)) (Sgg (map left l)) e) (window z r (pairs f t u) v w)
+    good :
+        (v w : ℕ)
+        → Within z r y x v w
+        → Good
+        ((2 * r + 2) * h)
+        (guide (f y x))
+        (λ l. slopeᶠ e (map left l))
+        (λ l. offsetᶠ e (map left l))
+        (λ l. slopeᶠ e (map right l))
+        (λ l. offsetᶠ e (map right l))
+        (λ l. length (map left l) * Q (length (map left l)) (Sg (map left l)) (Sgg (map left l)) e)
+        (window z r (pairs f t u) v w)
     good v w i =
         let l : List Pair = window z r (pairs f t u) v w in
         let some : 0 < length (map left l) = rw (length-map l left) (window-some z r (pairs f t u) v w (i .row) (i .column)) in

@@ -19,7 +19,8 @@ use Rattle.rules.proofs.WholeSteps.{Step}
 
 -- (n·g − Σg) times the difference of the two P, over plain numbers
 leaned : (n sg g st sgt st′ sgt′ k : ℕ) → n * sgt + sg * st′ ≤ sg * st + n * sgt′ + k → n * sgt′ + sg * st ≤ sg * st′ + n * sgt + k
-    → n * sgt * (n * g) + sg * st * sg + (sg * st′ * (n * g) + n * sgt′ * sg) ≤ n * sgt′ * (n * g) + sg * st′ * sg + (sg * st * (n * g) + n * sgt * sg) + k * distance (n * g) sg
+    → n * sgt * (n * g) + sg * st * sg + (sg * st′ * (n * g) + n * sgt′ * sg)
+    ≤ n * sgt′ * (n * g) + sg * st′ * sg + (sg * st * (n * g) + n * sgt * sg) + k * distance (n * g) sg
 leaned n sg g st sgt st′ sgt′ k p q = omega (arith, lean (n * g) sg (n * sgt + sg * st′) (sg * st + n * sgt′) k (omega arith) (omega arith))
 
 -- and with the difference of the means
