@@ -12,7 +12,7 @@ use Rattle.rules.specs.declared.Rgb.{Rgb}
 use Rattle.rules.specs.Window.{Plane, from, flat, low, many, square, window}
 use Rattle.rules.specs.Light.{guide}
 use Rattle.rules.specs.Transmission.{Sample, Sg, Sgg, Q}
-use Rattle.rules.specs.Fraction.{Fraction, whole, _+ᶠ_, _*ᶠ_, _/ᶠ_, _≤ᶠ_, sum}
+use Rattle.rules.specs.Fraction.{Fraction, whole, _+ᶠ_, _*ᶠ_, _/ᶠ_, sum, Upto}
 use Rattle.rules.specs.Exact.{slopeᶠ, offsetᶠ, lineᶠ, refineᶠ}
 use Rattle.rules.proofs.Local.{Within}
 use Rattle.rules.proofs.Spread.{Q-pos}
@@ -118,7 +118,7 @@ module _ (z : Shape) (r e : ℕ) (f : Plane Rgb) (t u : Plane ℕ) where
         let one : 2 * r + 1 + 1 ≡ 2 * r + 2 = omega arith in
         record { some = mul-pos some (Q-pos e (map left l) some above); step = rw one at (window-gain e (2 * r + 1) h (guide (f y x)) above few has a) }
 
-    pub filter-gain : filteredᶠ z r e f t y x ≤ᶠ filteredᶠ z r e f u y x +ᶠ whole ((2 * r + 2) * h)
+    pub filter-gain : Upto (whole ((2 * r + 2) * h)) (filteredᶠ z r e f t y x) (filteredᶠ z r e f u y x)
     filter-gain =
         let ls : List (List Pair) = window z r (window z r (pairs f t u)) y x in
         let k = all-window _ z r (window z r (pairs f t u)) y x good in

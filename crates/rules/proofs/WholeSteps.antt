@@ -6,7 +6,7 @@ use Prim.Native.Nat.{ℕ, suc, _+_, _*_, _≤_, _<_}
 use native.Mathlib.Nat.{mul-pos, mul-le-mul-right, mul-comm}
 use native.Mathlib.Omega.{arith}
 use lib.ListN.{length}
-use Rattle.rules.specs.Fraction.{Fraction, whole, _+ᶠ_, _*ᶠ_, _/ᶠ_, _≤ᶠ_, sum}
+use Rattle.rules.specs.Fraction.{Fraction, whole, _+ᶠ_, _*ᶠ_, _/ᶠ_, sum, Upto}
 use Rattle.rules.proofs.Worth.{Worth, worth-whole, worth-over, worth-scale, worth-add, worth-line}
 use Rattle.rules.proofs.WorthOrder.{le-worth}
 use Rattle.rules.proofs.Windowed.{All, none, more}
@@ -65,9 +65,11 @@ module _ {H g : ℕ} {A B C D : Fraction} where
       }
 
   -- the means
-  pub step-mean : {N E : ℕ} → 0 < N → 0 < E → Step H g N A B C D E → A /ᶠ whole N *ᶠ whole g +ᶠ B /ᶠ whole N ≤ᶠ C /ᶠ whole N *ᶠ whole g +ᶠ D /ᶠ whole N +ᶠ whole H
+  pub step-mean : {N E : ℕ} → 0 < N → 0 < E → Step H g N A B C D E → Upto (whole H) (A /ᶠ whole N *ᶠ whole g +ᶠ B /ᶠ whole N) (C /ᶠ whole N *ᶠ whole g +ᶠ D /ᶠ whole N)
   step-mean {N} {E} hN hE s =
-      le-worth (mul-pos hE hN) (worth-line g N hN (s .a) (s .b)) (worth-add (worth-line g N hN (s .c) (s .d)) (worth-over H (E * N))) (omega (arith, s .le))
+      let p = worth-line g N hN (s .a) (s .b) in
+      let q = worth-line g N hN (s .c) (s .d) in
+      record { number = p .some; other = q .some; most = le-worth (mul-pos hE hN) p (worth-add q (worth-over H (E * N))) (omega (arith, s .le)) }
 
 step-more :
     {H g N E F : ℕ} {A B C D A′ B′ C′ D′ : Fraction}

@@ -84,3 +84,9 @@ pub record Beside (by : Fraction) (n : ℕ) (p : Fraction) : Type 0 where
   pub number : 0 < p .bottom
   pub low : p ≤ᶠ whole n +ᶠ by
   pub high : whole n ≤ᶠ p +ᶠ by
+
+-- two exact ones, both numbers: p is at most `by` above q
+pub record Upto (by p q : Fraction) : Type 0 where
+  pub number : 0 < p .bottom
+  pub other : 0 < q .bottom
+  pub most : p ≤ᶠ q +ᶠ by
