@@ -131,10 +131,10 @@ def group_gain(same):
 
 
 def group_near(same):
-    usual = (0, 30, 7614, 59, 1000, 1)
-    for first, rest, low, high in ((255, 0, -ENTRY_UNDER, Fraction(-1719, 1000)),
-                                   (0, 255, Fraction(719, 1000), ENTRY_OVER)):
-        _, entries_off, _ = errors((31, 1), usual, (200,) * 3, [first] * 3 + [rest] * 90)
+    for first, rest, low, high in ((255, 0, -ENTRY_UNDER, Fraction(-1721, 1000)),
+                                   (0, 255, Fraction(721, 1000), ENTRY_OVER)):
+        frame = [first] * 3 + [rest] * 105
+        _, entries_off, _ = errors((6, 6), (0, 5, 9326, 59, 1000, 1), (200,) * 3, frame)
         same("one %d among %d" % (first, rest), low < entries_off[0] < high, True)
     coarse_off, _, _ = errors((1, 1), (0, 30, 9189, 59, 1000, 1), (247,) * 3, [212] * 3)
     same("212 under 247", Fraction(1914, 1000) < coarse_off[0] < Fraction(19189, 10000), True)
