@@ -30,7 +30,14 @@ first-of-requires c κs = tt
 
 returns-2 : tie.Need-returns-2
 unfolding refuseBand
-returns-2 c = rw (small (c .before .before .before .before)) (cc)
+returns-2 c =
+    rw (
+      small (c .before .before .before .before),
+      c .first-of .ensures,
+      c .before .wrong-entries .ensures,
+      c .before .before .wrong-band .ensures,
+      c .before .before .before .wrong-map .ensures,
+    )
 
 pub refuse-band-spec : {M : Type 1} → statement M
 refuse-band-spec =

@@ -33,7 +33,15 @@ first-of-requires c κs = tt
 
 returns-2 : tie.Need-returns-2
 unfolding refuseClear
-returns-2 c = rw (small (c .before .before .before .before .before)) (cc)
+returns-2 c =
+    rw (
+      small (c .before .before .before .before .before),
+      c .first-of .ensures,
+      c .before .wrong-light .ensures,
+      c .before .before .wrong-loan .ensures,
+      c .before .before .before .wrong-frame .ensures,
+      c .before .before .before .before .wrong-settings .ensures,
+    )
 
 pub refuse-clear-spec : {M : Type 1} → statement M
 refuse-clear-spec =

@@ -39,7 +39,17 @@ first-of-requires c κs = tt
 
 returns-2 : tie.Need-returns-2
 unfolding refuseHaze
-returns-2 c = rw (small (c .before .before .before .before .before .before .before)) (cc)
+returns-2 c =
+    rw (
+      small (c .before .before .before .before .before .before .before),
+      c .first-of .ensures,
+      c .before .wrong-entries .ensures,
+      c .before .before .wrong-light .ensures,
+      c .before .before .before .either .ensures,
+      c .before .before .before .before .wrong-map .ensures,
+      c .before .before .before .before .before .wrong-frame2 .ensures,
+      c .before .before .before .before .before .before .wrong-frame .ensures,
+    )
 
 pub refuse-haze-spec : {M : Type 1} → statement M
 refuse-haze-spec =

@@ -30,7 +30,14 @@ first-of-requires c κs = tt
 
 returns-2 : tie.Need-returns-2
 unfolding refuseLight
-returns-2 c = rw (small (c .before .before .before .before)) (cc)
+returns-2 c =
+    rw (
+      small (c .before .before .before .before),
+      c .first-of .ensures,
+      c .before .wrong-work .ensures,
+      c .before .before .wrong-frame .ensures,
+      c .before .before .before .wrong-settings .ensures,
+    )
 
 pub refuse-light-spec : {M : Type 1} → statement M
 refuse-light-spec =

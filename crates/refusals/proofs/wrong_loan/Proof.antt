@@ -19,7 +19,14 @@ either-requires-2 : tie.Need-either-requires-2
 either-requires-2 c κs = tt
 
 returns : tie.Need-returns
-returns c = cc
+returns c =
+    rw (
+      c .either2 .ensures,
+      c .before .wrong-work .ensures,
+      c .before .before .either .ensures,
+      c .before .before .before .wrong-map .ensures,
+      c .before .before .before .before .wrong-frame .ensures,
+    )
 
 pub wrong-loan-spec : {M : Type 1} → statement M
 wrong-loan-spec =
