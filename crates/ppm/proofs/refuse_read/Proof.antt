@@ -25,7 +25,13 @@ first-of-requires : tie.Need-first-of-requires
 first-of-requires c κs = tt
 
 returns-2 : tie.Need-returns-2
-returns-2 c = rw (small (c .before .before .before)) (cc)
+returns-2 c =
+    rw (
+      small (c .before .before .before),
+      c .first-of .ensures,
+      c .before .wrong-frame2 .ensures,
+      c .before .before .wrong-frame .ensures,
+    )
 
 pub refuse-read-spec : {M : Type 1} → statement M
 refuse-read-spec =

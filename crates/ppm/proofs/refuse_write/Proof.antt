@@ -33,7 +33,13 @@ first-of-requires c κs = tt
 
 returns-2 : tie.Need-returns-2
 unfolding refuseWrite
-returns-2 c = rw (small (c .before .before .before)) (cc (whole (c .before)))
+returns-2 c =
+    rw (
+      small (c .before .before .before),
+      c .first-of .ensures,
+      whole (c .before),
+      c .before .before .wrong-frame .ensures,
+    )
 
 pub refuse-write-spec : {M : Type 1} → statement M
 refuse-write-spec =
