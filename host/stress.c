@@ -480,6 +480,30 @@ static void run(int how)
     same_bytes(&picture_loan, run_picture);
 }
 
+/* ---- every two bytes under three lights: of two channels one is the column, one the row; with no radius and omega 10,000 an entry shows the least ratio */
+
+static void every_pair(int how)
+{
+    uint64_t third = draw() % 3, x, y;
+    uint8_t *frame;
+    good(how);
+    now.w = now.h = 256;
+    now.k.s = now.k.r = 0;
+    now.k.omega = 10000;
+    frame = lend(&frame_loan, 3 * 256 * 256);
+    for (y = 0; y < 256; y++)
+        for (x = 0; x < 256; x++) {
+            uint8_t *pixel = frame + 3 * (256 * y + x);
+            pixel[(third + 1) % 3] = (uint8_t)x;
+            pixel[(third + 2) % 3] = (uint8_t)y;
+            pixel[third] = (uint8_t)(one_in(2) ? 255 : draw());
+        }
+    lend(&map_loan, 256 * 256);
+    lend(&picture_loan, 3 * 256 * 256);
+    lend(&work_loan, HAZE_WORK(256, 256));
+    same_number(clear(), 0);
+}
+
 /* ---- document 01's figures that are run only */
 
 static void defaults(uint64_t w, uint64_t h)
@@ -551,6 +575,7 @@ int main(int count, char **words)
     printf("%-8s %7llu calls agree\n", "figures", (unsigned long long)calls);
     group("light", lights, 300 * t, 20 * t, 10 * t, 4 * t);
     group("clear", clears, 300 * t, 20 * t, 10 * t, 4 * t);
+    group("pairs", every_pair, 4 * t, 0, 0, 0);
     group("replace", replaces, 600 * t, 40 * t, 20 * t, 8 * t);
     group("add", adds, 300 * t, 20 * t, 10 * t, 4 * t);
     group("band", bands, 300 * t, 20 * t, 10 * t, 4 * t);

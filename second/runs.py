@@ -33,6 +33,7 @@ sys.dont_write_bytecode = True
 sys.path.insert(0, os.path.dirname(os.path.abspath(__file__)))
 
 import kept
+import ratiocases
 import rules
 
 WIDEST = 2 ** 64 - 1
@@ -398,6 +399,26 @@ def large_frames(run):
 
 
 # ---------------------------------------------------------------------------
+# Ratios that are hard to tell
+# ---------------------------------------------------------------------------
+
+def close_ratios(run):
+    """Fractions that tie, nearly tie or are capped, twelve pixels at a time, so that the answer shows every entry.
+
+    With radii 0 and an omega of 10,000 an entry is 10,000 less the pixel's ratio.
+    """
+    ratiocases.assert_told_apart()
+    for light, pixels in ratiocases.cases():
+        for first in range(0, len(pixels), 12):
+            some = pixels[first:first + 12]
+            size = (len(some), 1)
+            lend_unlike(run, size)
+            run.put(FRAME, itertools.chain(*some))
+            number, values = run.call(Call(CLEAR, size, (0, 0, 10000, 59, 1000, 1), light))
+            assert number == 0 and values[0] == [10000 - ratiocases.right(light, pixel) for pixel in some]
+
+
+# ---------------------------------------------------------------------------
 # Bands and hazes of their own
 # ---------------------------------------------------------------------------
 
@@ -599,7 +620,7 @@ def made():
     """All commands and all answers, as the two files have them."""
     run = Run()
     for part in (figures, small_frames, refusals, ends_of_ranges, middle_frames, bands_and_hazes,
-                 replacements_into_anything, runs_of_replacements, large_frames):
+                 replacements_into_anything, runs_of_replacements, large_frames, close_ratios):
         part(run)
     given = "".join(line + "\n" for line in run.given)
     answered = "".join(line + "\n" for line in run.answered)

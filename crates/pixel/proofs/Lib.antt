@@ -1,3 +1,4 @@
 -- The laws of one pixel's arithmetic.
 pub mod Sizes
 pub mod Signs
+pub mod Fractions

@@ -2,8 +2,8 @@
 // where the numbers are small, since that is quicker. The library's other divisions: a share of the pixels once a call (`light`), two of doubles
 // (`bands`), halves in a search (`depth`), tenths of a number that is written (`fields`).
 ghost use mathlib.Core.Path.{_≡_};
-ghost use mathlib.Core.Bool.{true, false};
-ghost use Prim.Native.Nat.{_+_, _*_, _/_, _^_, _≤_, _<_};
+ghost use mathlib.Core.Bool.{true, false, cond};
+ghost use Prim.Native.Nat.{_+_, _*_, _/_, _^_, _≤_, _<_, min};
 ghost use lib.ListN.{length};
 ghost use lib.IntN.{pos, natAbs};
 ghost use lib.Signed.{shrZ, ltZ};
@@ -55,15 +55,48 @@ fn ratio_of(i: u8, a: u8) -> u64
     lesser_u64((10000 * (i as u32) / (a as u32)) as u64, 10000)
 }
 
-// The least ratio over the channels.
+// A byte over the light of its channel.
+struct Fraction {
+    i: u8,
+    a: u8,
+}
+
+// The product of two bytes.
+fn product(i: u8, a: u8) -> u32
+    ensures { λ r. ⌜ r ≡ i * a ⌝ }
+{
+    (i as u32) * (a as u32)
+}
+
+// The second byte if it is asked for, else the first. A fraction is chosen byte by byte with it, since the compiler makes no branch of that.
+fn chosen(second: bool, x: u8, y: u8) -> u8
+    ensures { λ r. ⌜ r ≡ cond second y x ⌝ }
+{
+    if second { y } else { x }
+}
+
+// The smaller of two fractions, told by their cross products; of equal ones either may be taken.
+fn smaller(x: Fraction, y: Fraction) -> Fraction
+    requires { ⌜ (0 < x .a) × (0 < y .a) ⌝ }
+    ensures { λ r. ⌜ (0 < r .a) × (ratio (r .i) (r .a) ≡ min (ratio (x .i) (x .a)) (ratio (y .i) (y .a))) ⌝ }
+{
+    let second = product(y.i, x.a) < product(x.i, y.a);
+    Fraction {
+        i: chosen(second, x.i, y.i),
+        a: chosen(second, x.a, y.a),
+    }
+}
+
+// The least ratio over the channels: that of the smallest fraction, so one division does.
 pub fn least_ratio(i: Rgb, a: Rgb) -> u64
     requires { ⌜ GoodLight a ⌝ }
     ensures { λ r. ⌜ r ≡ leastRatio a i ⌝ }
 {
-    lesser_u64(
-        ratio_of(i.r, a.r),
-        lesser_u64(ratio_of(i.g, a.g), ratio_of(i.b, a.b)),
-    )
+    let red = Fraction { i: i.r, a: a.r };
+    let green = Fraction { i: i.g, a: a.g };
+    let blue = Fraction { i: i.b, a: a.b };
+    let least = smaller(red, smaller(green, blue));
+    ratio_of(least.i, least.a)
 }
 
 // Coarse transmission, from the least ratio d of a window.

@@ -1,0 +1,19 @@
+-- `pixel::product` meets its contract. Assumes nothing.
+use Prim.Native.Nat.{_≤_}
+use native.Mathlib.Nat.{mul-le-mul}
+use native.Mathlib.Omega.{arith}
+use borrow.Author.Needs.{needs}
+use Rattle.pixel.proofs.product.Statement.{statement}
+use Rattle.pixel.proofs.product.Tie as tie
+
+mul-result : tie.Need-mul-result
+mul-result c =
+    let i : c .args .i ≤ 255 = omega arith in
+    let a : c .args .a ≤ 255 = omega arith in
+    omega (arith, mul-le-mul i a)
+
+returns : tie.Need-returns
+returns c = search needs
+
+pub product-spec : {M : Type 1} → statement M
+product-spec = tie.close (tie.spec mul-result returns)
