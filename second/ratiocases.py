@@ -11,7 +11,7 @@ import math
 
 import rules
 
-# Fractions that differ by less than this part of 1 nearly tie: a step of the ratio.
+# Fractions nearly tie where they differ by less than a step of the ratio, one ten-thousandth.
 STEPS = 10000
 
 
@@ -41,9 +41,10 @@ def near_ties(light):
     """Two channels that nearly tie with the third at its light, and all three near each other."""
     for one, other in itertools.combinations(range(3), 2):
         for byte in range(1, light[one]):
-            pixel = list(light)
-            pixel[one] = byte
-            for pixel[other] in (byte * light[other] // light[one], byte * light[other] // light[one] + 1):
+            below = byte * light[other] // light[one]
+            for beside in (below, below + 1):
+                pixel = list(light)
+                pixel[one], pixel[other] = byte, beside
                 if nearly_tie(light, pixel, one, other):
                     yield tuple(pixel)
     for byte in range(1, light[0]):
