@@ -75,12 +75,19 @@ fn chosen(second: bool, x: u8, y: u8) -> u8
     if second { y } else { x }
 }
 
-// The smaller of two fractions, told by their cross products; of equal ones either may be taken.
+// Whether x is the smaller of two fractions, told by their cross products; of equal ones either may be said to be.
+fn is_smaller(x: Fraction, y: Fraction) -> bool
+    ensures { λ r. ⌜ (r ≡ true → x .i * y .a ≤ y .i * x .a) × (r ≡ false → y .i * x .a ≤ x .i * y .a) ⌝ }
+{
+    product(x.i, y.a) < product(y.i, x.a)
+}
+
+// The smaller of two fractions.
 fn smaller(x: Fraction, y: Fraction) -> Fraction
     requires { ⌜ (0 < x .a) × (0 < y .a) ⌝ }
     ensures { λ r. ⌜ (0 < r .a) × (ratio (r .i) (r .a) ≡ min (ratio (x .i) (x .a)) (ratio (y .i) (y .a))) ⌝ }
 {
-    let second = product(y.i, x.a) < product(x.i, y.a);
+    let second = is_smaller(y, x);
     Fraction {
         i: chosen(second, x.i, y.i),
         a: chosen(second, x.a, y.a),

@@ -13,7 +13,7 @@ ratio-of-requires : tie.Need-ratio-of-requires
 ratio-of-requires c κs = search needs
 
 returns : tie.Need-returns
-returns c = cc
+returns c = rw (c .ratio-of .ensures, c .before .smaller2 .ensures .1, c .before .before .smaller .ensures .1)
 
 pub least-ratio-spec : {M : Type 1} → statement M
 least-ratio-spec = tie.close (tie.spec smaller-requires smaller-requires-2 ratio-of-requires returns)
