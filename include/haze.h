@@ -21,6 +21,9 @@
 #ifndef HAZE_H
 #define HAZE_H
 
+/* The version of tool, library and header; while its first number is 0, a change of the second may change the C interface. */
+#define HAZE_VERSION "0.1.0"
+
 #include <stddef.h>
 #include <stdint.h>
 
@@ -28,8 +31,21 @@
 extern "C" {
 #endif
 
-/* How many entries of the work area a call on w columns and h rows uses. */
-#define HAZE_WORK(w, h) (8 * ((size_t)(w) + 1) * ((size_t)(h) + 1))
+/* How many entries of the work area a call on w columns and h rows uses: a size_t, and a constant when w and h are. */
+#define HAZE_WORK(w, h) (8 * (HAZE_COUNT(w) + 1) * (HAZE_COUNT(h) + 1))
+
+/* For HAZE_WORK: a count of any integer type as a size_t. In C++ it goes by a type of its own: compilers warn there of a cast as C has it, and of a cast to the
+ * type that the count already has. */
+#ifndef __cplusplus
+#define HAZE_COUNT(count) ((size_t)(count))
+#else
+#define HAZE_COUNT(count) static_cast<haze_count>(count)
+#if __cplusplus >= 201103L
+enum haze_count : size_t {};
+#else
+enum haze_count { HAZE_COUNT_MOST = ~static_cast<size_t>(0) };
+#endif
+#endif
 
 enum haze_answer {
     HAZE_DONE = 0,
@@ -46,8 +62,17 @@ enum haze_answer {
     HAZE_BAD_LENGTH = 13   /* the pixels are short or bytes are left over, a second picture among them */
 };
 
+/* A function that a caller may leave unused. C89 has no word for it, but a compiler may. */
+#if defined(__cplusplus) || (defined(__STDC_VERSION__) && __STDC_VERSION__ >= 199901L)
+#define HAZE_INLINE static inline
+#elif defined(__GNUC__)
+#define HAZE_INLINE static __inline__
+#else
+#define HAZE_INLINE static
+#endif
+
 /* What a number that is returned means, in words. */
-static inline const char *haze_words(uint8_t number)
+HAZE_INLINE const char *haze_words(uint8_t number)
 {
     switch (number) {
     case HAZE_DONE: return "done";
@@ -65,6 +90,7 @@ static inline const char *haze_words(uint8_t number)
     default: return "no number that these functions return";
     }
 }
+#undef HAZE_INLINE
 
 /* The settings; all six are judged, used or not. */
 struct haze_settings {
@@ -94,16 +120,13 @@ struct haze_rect {
     uint64_t column, row, width, height;
 };
 
-/* The library takes each struct as an array of its members: there is nothing between them. */
-#ifdef __cplusplus
-#define HAZE_ARRAY(type, count, entry) static_assert(sizeof(type) == (count) * sizeof(entry), "laid out as the library has it")
-#else
-#define HAZE_ARRAY(type, count, entry) _Static_assert(sizeof(type) == (count) * sizeof(entry), "laid out as the library has it")
-#endif
-HAZE_ARRAY(struct haze_settings, 6, uint64_t);
-HAZE_ARRAY(struct haze_rgb, 3, uint8_t);
-HAZE_ARRAY(struct haze_lights, 3, uint8_t);
-HAZE_ARRAY(struct haze_rect, 4, uint64_t);
+/* The library takes each struct as an array of its members: there is nothing between them. One that is laid out in another way would give an array of a
+ * length below 0, which a compiler refuses. */
+#define HAZE_ARRAY(name, count, entry) typedef char haze_##name##_laid_out_as_an_array[sizeof(struct haze_##name) == (count) * sizeof(entry) ? 1 : -1]
+HAZE_ARRAY(settings, 6, uint64_t);
+HAZE_ARRAY(rgb, 3, uint8_t);
+HAZE_ARRAY(lights, 3, uint8_t);
+HAZE_ARRAY(rect, 4, uint64_t);
 #undef HAZE_ARRAY
 
 /* Light: finds the ambient light of a frame. Checks 1, 2, 3, 4. The light's channels, each at least 1, go to lights->light. */
@@ -134,7 +157,9 @@ uint8_t haze_band(uint64_t w, uint64_t h, const uint16_t *map, size_t map_len, u
 /* Depths: relative depth from a map, in steps of one hundredth. A table starts at 1000000000, each entry is 99/100 of the one before, rounded down, up to and
  * with the first that is at most 100000: 918 entries. The depth of a map entry t is the first place, from 0, whose table entry is at most 100000*t, and 918 for
  * t = 0; so 10000 is 0, 9999 and 9900 are 1, and more transmission never means more depth. The depth of every entry goes into depths. Checks 1, 4 for either
- * length, 8. The call takes 24 KB of stack. */
+ * length, 8. The call takes 24 KB of stack.
+ * Depth is read off the haze, and bright or grey things look like haze: a white post in near grass can read as farther off than the hill behind it, and snow
+ * reads as far. A planner must never clear a path by it alone. */
 #define HAZE_DEEPEST 918 /* the depth of an entry of 0; no depth is more */
 uint8_t haze_depths(uint64_t w, uint64_t h, const uint16_t *map, size_t map_len, uint16_t *depths, size_t depths_len);
 
