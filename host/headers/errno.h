@@ -3,5 +3,9 @@
 #define ERRNO_H
 int *__errno_location(void);
 #define errno (*__errno_location())
+#define EINTR 4
+#define EBADF 9
 #define EEXIST 17
+#define EISDIR 21
+#define EINVAL 22
 #endif

@@ -7,6 +7,9 @@ void *memset(void *at, int byte, size_t n);
 int memcmp(const void *a, const void *b, size_t n);
 int strcmp(const char *a, const char *b);
 int strncmp(const char *a, const char *b, size_t n);
+char *strchr(const char *text, int byte);
+char *strrchr(const char *text, int byte);
+char *strstr(const char *text, const char *part);
 size_t strlen(const char *text);
 char *strerror(int number);
 #endif

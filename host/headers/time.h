@@ -6,5 +6,6 @@ struct timespec {
     long tv_nsec;
 };
 #define CLOCK_MONOTONIC 1
+int nanosleep(const struct timespec *how_long, struct timespec *left);
 int clock_gettime(int clock, struct timespec *at);
 #endif

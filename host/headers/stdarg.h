@@ -1,0 +1,7 @@
+/* For a compiler that comes with no headers: what the host programs use of this one. */
+#ifndef STDARG_H
+#define STDARG_H
+typedef __builtin_va_list va_list;
+#define va_start(list, last) __builtin_va_start(list, last)
+#define va_end(list) __builtin_va_end(list)
+#endif

@@ -1,0 +1,29 @@
+/* A frame and what is worked out of it: light, map and cleared picture. */
+#ifndef CLEARING_H
+#define CLEARING_H
+#include "frames.h"
+#include "haze.h"
+#include "words.h"
+
+/* How a step went: done; failed, which was said; or refused for the words, so that it would be refused for every other frame too. */
+enum { DONE, FAILED, WRONG_WORDS };
+
+typedef struct {
+    const char *path;
+    frame in, picture;
+    map through;
+    struct haze_lights lights;
+    double reading, finding, clearing, last; /* milliseconds; and when the last step ended */
+} clearing;
+
+/* The frame is read and its light found, or taken from the words. What was made is to be freed, however it went. */
+int begin_clearing(clearing *c, const char *path, const words *w);
+
+/* Then it is cleared. */
+int clear_frame(clearing *c, const words *w);
+
+void free_clearing(clearing *c);
+
+/* With -v: the light, and how long each step took; the last one is called by its name. */
+void tell_times(clearing *c, const words *w, const char *step);
+#endif

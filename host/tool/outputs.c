@@ -1,0 +1,238 @@
+#include "outputs.h"
+#include <errno.h>
+#include <fcntl.h>
+#include <signal.h>
+#include <stdio.h>
+#include <stdlib.h>
+#include <string.h>
+#include <sys/file.h>
+#include <time.h>
+#include <unistd.h>
+#include "memory.h"
+#include "say.h"
+
+static int unwritable(const output *o, const char *why) { return say("%s: cannot be written: %s", output_name(o->path), why); }
+
+output new_output(const char *path, content file) { return (output){.path = path, .file = file, .folder = -1, .unfinished = -1}; }
+
+/* ---- signals */
+
+static const int ending[] = {SIGHUP, SIGINT, SIGQUIT, SIGPIPE, SIGALRM, SIGTERM, SIGXCPU, SIGXFSZ};
+
+#define ENDING (int)(sizeof ending / sizeof *ending)
+
+/* What a signal has to remove. */
+static output *volatile underway = NULL;
+static volatile sig_atomic_t underway_count = 0;
+
+static void remove_unfinished(void)
+{
+    int k;
+    for (k = 0; k < underway_count; k++)
+        if (underway[k].unfinished >= 0) unlinkat(underway[k].folder, underway[k].new_name, 0);
+}
+
+/* The signal then does what it does by itself. */
+static void on_signal(int number)
+{
+    struct sigaction usual = {.sa_handler = SIG_DFL};
+    remove_unfinished();
+    sigaction(number, &usual, NULL);
+    raise(number);
+}
+
+/* A signal that is ignored, as nohup has it, stays ignored. */
+static void catch_signals(void)
+{
+    struct sigaction ours = {.sa_handler = on_signal}, old;
+    int k;
+    for (k = 0; k < ENDING; k++)
+        if (!sigaction(ending[k], NULL, &old) && old.sa_handler != SIG_IGN) sigaction(ending[k], &ours, NULL);
+}
+
+/* Between a file's change of name and the note of it no signal is let in. */
+static sigset_t hold_signals(void)
+{
+    sigset_t held, old;
+    int k;
+    sigemptyset(&held);
+    for (k = 0; k < ENDING; k++) sigaddset(&held, ending[k]);
+    sigprocmask(SIG_BLOCK, &held, &old);
+    return old;
+}
+
+static void let_signals(sigset_t old) { sigprocmask(SIG_SETMASK, &old, NULL); }
+
+/* ---- where a file goes */
+
+/* The folder is held open: names in it are then short, however long its path is. Where it cannot be read, it can still be written to. */
+static int open_folder(output *o)
+{
+    const char *slash = strrchr(o->path, '/');
+    size_t length = slash ? (size_t)(slash - o->path) : 0;
+    char *folder = memory(length + sizeof "/.");
+    snprintf(folder, length + sizeof "/.", "%.*s%s", (int)length, o->path, slash ? "/." : ".");
+    o->name = slash ? slash + 1 : o->path;
+    o->folder = open(folder, O_RDONLY | O_DIRECTORY | O_CLOEXEC);
+    if (o->folder < 0) o->folder = open(folder, O_PATH | O_DIRECTORY | O_CLOEXEC);
+    free(folder);
+    return o->folder < 0 ? unwritable(o, strerror(errno)) : 0;
+}
+
+static int find_place(output *o)
+{
+    if (is_standard(o->path)) return 0;
+    if (open_folder(o)) return 1;
+    if (fstatat(o->folder, o->name, &o->old, AT_SYMLINK_NOFOLLOW)) o->old.st_mode = 0;
+    if (o->old.st_mode && !S_ISREG(o->old.st_mode)) return unwritable(o, "it is there and is not a plain file");
+    return *o->name ? 0 : unwritable(o, strerror(EISDIR));
+}
+
+static int same_place(const output *a, const output *b)
+{
+    struct stat folder_a, folder_b;
+    if (a->folder < 0 || b->folder < 0) return a->folder < 0 && b->folder < 0;
+    if (strcmp(a->name, b->name) || fstat(a->folder, &folder_a) || fstat(b->folder, &folder_b)) return 0;
+    return folder_a.st_dev == folder_b.st_dev && folder_a.st_ino == folder_b.st_ino;
+}
+
+static int find_places(output *outputs, int count)
+{
+    int k;
+    for (k = 0; k < count; k++) {
+        if (find_place(outputs + k)) return 1;
+        if (k > 0 && same_place(outputs + k, outputs)) return unwritable(outputs + k, "two files of this run would go there");
+        if (k > 1 && same_place(outputs + k, outputs + 1)) return unwritable(outputs + k, "two files of this run would go there");
+    }
+    return 0;
+}
+
+/* ---- the new file */
+
+/* So much of a name is in the new file's name that it says whose it is, and a number and its ending still fit under every system's limit. */
+#define KEPT_OF_NAME 100
+
+static int kept_of(const char *name)
+{
+    int n = 0;
+    while (name[n] && n < KEPT_OF_NAME) n++;
+    while (n && ((unsigned char)name[n] & 0xC0) == 0x80) n--; /* a letter of UTF-8 is not cut */
+    return n;
+}
+
+/* A new file is held by its run from the moment on that it is there. Between two runs that is so because each holds the folder meanwhile; one that cannot have
+ * it within a tenth of a second does without. */
+static int hold_folder(const output *o)
+{
+    const struct timespec moment = {0, 1000000};
+    int tries = 100;
+    while (flock(o->folder, LOCK_EX | LOCK_NB) && --tries) nanosleep(&moment, NULL);
+    return tries > 0;
+}
+
+/* So a file that nobody holds was left by a run that was killed. */
+static void name_leftover(const output *o)
+{
+    int file = openat(o->folder, o->new_name, O_RDONLY | O_NONBLOCK | O_NOFOLLOW | O_CLOEXEC);
+    if (file < 0) return;
+    if (!flock(file, LOCK_EX | LOCK_NB)) say("%.*s%s is left from a run that was killed; it can be removed", (int)(o->name - o->path), o->path, o->new_name);
+    close(file);
+}
+
+/* The first number that is free. */
+static int create(output *o)
+{
+    int held = hold_folder(o), why = EEXIST;
+    unsigned k;
+    for (k = 0; o->unfinished < 0 && why == EEXIST; k++) {
+        snprintf(o->new_name, sizeof o->new_name, "%.*s.%u.new", kept_of(o->name), o->name, k);
+        o->unfinished = openat(o->folder, o->new_name, O_WRONLY | O_CREAT | O_EXCL | O_CLOEXEC, 0666);
+        why = errno;
+        if (o->unfinished < 0 && why == EEXIST && held) name_leftover(o);
+    }
+    if (o->unfinished >= 0) flock(o->unfinished, LOCK_EX | LOCK_NB);
+    flock(o->folder, LOCK_UN);
+    return o->unfinished < 0 ? unwritable(o, strerror(why)) : 0;
+}
+
+static int write_all(const output *o, int file)
+{
+    size_t done = 0;
+    ssize_t put = 0;
+    while (done < o->file.length && put >= 0) {
+        put = write(file, o->file.bytes + done, o->file.length - done);
+        if (put >= 0) done += (size_t)put;
+        else if (errno == EINTR) put = 0;
+    }
+    return put < 0 ? unwritable(o, strerror(errno)) : 0;
+}
+
+/* The whole new file, on the disk. A file system without modes is no reason to fail. */
+static int make(output *o)
+{
+    sigset_t old;
+    int failed;
+    if (is_standard(o->path)) return 0;
+    old = hold_signals();
+    failed = create(o);
+    let_signals(old);
+    if (failed || write_all(o, o->unfinished)) return 1;
+    if (o->old.st_mode) fchmod(o->unfinished, o->old.st_mode & 07777);
+    return fsync(o->unfinished) ? unwritable(o, strerror(errno)) : 0;
+}
+
+static int take_name(output *o)
+{
+    sigset_t old;
+    int failed;
+    if (o->unfinished < 0) return 0;
+    old = hold_signals();
+    failed = renameat(o->folder, o->new_name, o->folder, o->name);
+    if (!failed) {
+        close(o->unfinished);
+        o->unfinished = -1;
+    }
+    let_signals(old);
+    return failed ? unwritable(o, strerror(errno)) : 0;
+}
+
+/* The new name goes to the disk too, where the system can do that for a folder. */
+static int settle(output *o)
+{
+    if (o->folder < 0 || !fsync(o->folder) || errno == EINVAL || errno == EBADF) return 0;
+    return say("%s: is written, but the disk may not have its name: %s", o->path, strerror(errno));
+}
+
+/* ---- all of them */
+
+static int each(int (*step)(output *), output *outputs, int count)
+{
+    int k, failed = 0;
+    for (k = 0; k < count && !failed; k++) failed = step(outputs + k);
+    return failed;
+}
+
+static int put_out(output *o) { return is_standard(o->path) ? write_all(o, STDOUT_FILENO) : 0; }
+
+static int let_go(output *o)
+{
+    if (o->unfinished >= 0) close(o->unfinished);
+    if (o->folder >= 0) close(o->folder);
+    o->unfinished = o->folder = -1;
+    free(o->file.bytes);
+    return 0;
+}
+
+int write_outputs(output *outputs, int count)
+{
+    int failed;
+    catch_signals();
+    underway = outputs;
+    underway_count = count;
+    failed = find_places(outputs, count) || each(make, outputs, count) || each(put_out, outputs, count) || each(take_name, outputs, count) ||
+             each(settle, outputs, count);
+    remove_unfinished();
+    underway_count = 0;
+    each(let_go, outputs, count);
+    return failed;
+}
