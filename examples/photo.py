@@ -3,13 +3,16 @@
     python3 -I examples/photo.py OUT.ppm            the hazy frame
     python3 -I examples/photo.py OUT.ppm --clean    the same field without haze
 
-The field is painted from far to near on a canvas that keeps each pixel's distance; then haze is laid on by distance.
-Only sums, products, quotients and square roots of doubles are used, which IEEE 754 fixes to the bit, so every machine makes the same bytes.
+The field is painted from far to near on a canvas that keeps each pixel's distance; then haze is laid on by distance. Every machine makes the same bytes.
 """
 
 import math
-import os
 import sys
+from pathlib import Path
+
+sys.dont_write_bytecode = True
+sys.path.insert(0, str(Path(__file__).resolve().parent))
+from painting import Dice, Noise, held, let_through, shaded, write
 
 W, H = 480, 320
 HORIZON = 74            # the row where endless ground would end
@@ -23,37 +26,11 @@ LIGHT = (217.0, 220.0, 222.0)
 VEIL, THICKNESS = 0.68, 0.025           # transmission at the lens, and what a metre takes
 
 
-class Dice:
-    """A congruential generator; the high bits of each number are used."""
-
-    def __init__(self, seed):
-        self.state = seed
-
-    def roll(self, low=0.0, high=1.0):
-        self.state = (self.state * 6364136223846793005 + 1442695040888963407) % 2**64
-        return low + (high - low) * (self.state >> 33) / 2147483648.0
-
-
 # ---------------------------------------------------------------------------
 # Noise
 # ---------------------------------------------------------------------------
 
-SIDE = 256
-_dice = Dice(7)
-LATTICE = [_dice.roll(-1.0, 1.0) for _ in range(SIDE * SIDE)]
-
-
-def noise(x, y):
-    """Smooth between random values at whole places; about -1 to 1."""
-    fx, fy = x // 1.0, y // 1.0
-    u, v = x - fx, y - fy
-    u, v = u * u * (3.0 - 2.0 * u), v * v * (3.0 - 2.0 * v)
-    left, right = int(fx) % SIDE, (int(fx) + 1) % SIDE
-    upper, lower = int(fy) % SIDE * SIDE, (int(fy) + 1) % SIDE * SIDE
-    a, b = LATTICE[upper + left], LATTICE[upper + right]
-    c, d = LATTICE[lower + left], LATTICE[lower + right]
-    top, bottom = a + (b - a) * u, c + (d - c) * u
-    return top + (bottom - top) * v
+noise = Noise(256)
 
 
 def octaves(x, y, finest, waves):
@@ -65,10 +42,6 @@ def octaves(x, y, finest, waves):
             break
         total += min(1.0, seen) * noise(x / wave + 37.0 * k, y / wave + 11.0 * k) * math.sqrt(wave / waves[0])
     return total
-
-
-def held(value, low=0.0, high=1.0):
-    return low if value < low else high if value > high else value
 
 
 def squares(a, b):
@@ -93,10 +66,6 @@ def lay(x, y, colour, cover, z):
     canvas[p] = tuple(o + (c - o) * cover for o, c in zip(old, colour))
     if cover > 0.5:
         distance[p] = z
-
-
-def shaded(colour, by):
-    return tuple(c * by for c in colour)
 
 
 def row_of(z):
@@ -299,16 +268,8 @@ def paint_plants():
 
 
 # ---------------------------------------------------------------------------
-# Haze, and the file
+# The whole
 # ---------------------------------------------------------------------------
-
-def transmission(z):
-    """The exponential of document 000, as the 64th power of a root's first terms."""
-    root = 1.0 - THICKNESS * z / 64.0
-    for _ in range(6):
-        root *= root
-    return VEIL * root
-
 
 def paint():
     paint_sky()
@@ -321,20 +282,8 @@ def paint():
     paint_plants()
 
 
-def frame(clean):
-    """The bytes. The sensor's noise is less than one step either way."""
-    dice = Dice(31)
-    out = bytearray()
-    for colour, z in zip(canvas, distance):
-        t = 1.0 if clean else transmission(z)
-        for c, a in zip(colour, LIGHT):
-            out.append(int(held(c * t + a * (1.0 - t) + dice.roll(-0.7, 0.7) + 0.5, 0.0, 255.0)))
-    return bytes(out)
-
-
 if len(sys.argv) not in (2, 3) or sys.argv[2:] not in ([], ["--clean"]):
     sys.exit("usage: photo.py OUT.ppm [--clean]")
+clean = bool(sys.argv[2:])
 paint()
-os.makedirs(os.path.dirname(sys.argv[1]) or ".", exist_ok=True)
-with open(sys.argv[1], "wb") as file:
-    file.write(b"P6\n%d %d\n255\n" % (W, H) + frame(bool(sys.argv[2:])))
+write(sys.argv[1], (W, H), ((colour, 1.0 if clean else VEIL * let_through(z, THICKNESS)) for colour, z in zip(canvas, distance)), LIGHT)

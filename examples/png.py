@@ -1,8 +1,7 @@
-"""PNG files of frames, maps and depths, with the standard library alone.
+"""PNG files of PPM files, with the standard library alone.
 
-    python3 -I examples/png.py FILE OUT.png              writes a PPM frame in colour, a PGM map in 256 greys,
-                                                         or depths likewise, the greatest that the file has in white
-    python3 -I examples/png.py --same PICTURE.png FILE   status 1 when the picture's pixels are others than the file's
+    python3 -I examples/png.py FILE.ppm OUT.png              writes the frame, or the picture that `haze view` makes
+    python3 -I examples/png.py --same PICTURE.png FILE.ppm   status 1 when the picture's pixels are others than the file's
 """
 
 import struct
@@ -10,21 +9,16 @@ import sys
 import zlib
 
 SIGNATURE = b"\x89PNG\r\n\x1a\n"
-GREY, COLOUR = 0, 2     # PNG's numbers for them
+COLOUR, CHANNELS = 2, 3     # PNG's number for red, green and blue, and how many they are
 
 
 def pixels(path):
-    """Width, height, channels and bytes of a PPM or PGM file whose header is as the tool writes it."""
+    """Width, height and bytes of a PPM file whose header is as the tool writes it."""
     with open(path, "rb") as file:
         magic, size, maximum, data = file.read().split(b"\n", 3)
-    width, height = map(int, size.split())
-    if (magic, maximum) == (b"P6", b"255"):
-        return width, height, 3, data
-    if magic == b"P5" and maximum in (b"10000", b"918"):
-        entries = struct.unpack(">%dH" % (width * height), data)
-        white = 10000 if maximum == b"10000" else max(1, *entries)
-        return width, height, 1, bytes((entry * 255 + white // 2) // white for entry in entries)
-    sys.exit(path + ": neither a frame, nor a map, nor depths")
+    if (magic, maximum) != (b"P6", b"255"):
+        sys.exit(path + ": is not a frame")
+    return *map(int, size.split()), data
 
 
 # ---------------------------------------------------------------------------
@@ -45,18 +39,18 @@ FORETOLD = (
 )
 
 
-def filtered(row, above, channels, kind):
+def filtered(row, above, kind):
     """The row by a filter, after the filter's number."""
-    lefts, corners = bytes(channels) + row, bytes(channels) + above
+    lefts, corners = bytes(CHANNELS) + row, bytes(CHANNELS) + above
     return bytes([kind]) + bytes((x - FORETOLD[kind](a, b, c)) % 256 for x, a, b, c in zip(row, lefts, above, corners))
 
 
-def unfiltered(line, above, channels):
-    kind, row = line[0], bytearray(channels)
-    corners = bytes(channels) + above
+def unfiltered(line, above):
+    kind, row = line[0], bytearray(CHANNELS)
+    corners = bytes(CHANNELS) + above
     for i, x in enumerate(line[1:]):
         row.append((x + FORETOLD[kind](row[i], above[i], corners[i])) % 256)
-    return bytes(row[channels:])
+    return bytes(row[CHANNELS:])
 
 
 def weight(line):
@@ -72,13 +66,13 @@ def chunk(name, data):
     return struct.pack(">I", len(data)) + name + data + struct.pack(">I", zlib.crc32(name + data))
 
 
-def encoded(width, height, channels, data):
-    stride, above, lines = width * channels, bytes(width * channels), []
+def encoded(width, height, data):
+    stride, above, lines = width * CHANNELS, bytes(width * CHANNELS), []
     for y in range(height):
         row = data[y * stride:(y + 1) * stride]
-        lines.append(min((filtered(row, above, channels, kind) for kind in range(5)), key=weight))
+        lines.append(min((filtered(row, above, kind) for kind in range(5)), key=weight))
         above = row
-    header = struct.pack(">IIBBBBB", width, height, 8, COLOUR if channels == 3 else GREY, 0, 0, 0)
+    header = struct.pack(">IIBBBBB", width, height, 8, COLOUR, 0, 0, 0)
     packed = zlib.compress(b"".join(lines), 9)
     return SIGNATURE + chunk(b"IHDR", header) + chunk(b"IDAT", packed) + chunk(b"IEND", b"")
 
@@ -90,13 +84,12 @@ def decoded(png):
         length, name = struct.unpack(">I4s", png[at:at + 8])
         parts[name] = png[at + 8:at + 8 + length]
         at += 12 + length
-    width, height, depth, colour = struct.unpack(">IIBB", parts[b"IHDR"][:10])
-    channels = 3 if colour == COLOUR else 1
-    lines, stride, above, rows = zlib.decompress(parts[b"IDAT"]), width * channels, bytes(width * channels), []
+    width, height = struct.unpack(">II", parts[b"IHDR"][:8])
+    lines, stride, above, rows = zlib.decompress(parts[b"IDAT"]), width * CHANNELS, bytes(width * CHANNELS), []
     for y in range(height):
-        above = unfiltered(lines[y * (stride + 1):(y + 1) * (stride + 1)], above, channels)
+        above = unfiltered(lines[y * (stride + 1):(y + 1) * (stride + 1)], above)
         rows.append(above)
-    return width, height, channels, b"".join(rows)
+    return width, height, b"".join(rows)
 
 
 def main(words):
