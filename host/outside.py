@@ -1,7 +1,8 @@
 """Holds reader and writer to two programs of others, Netpbm and ImageMagick.
 
 They write PPM files of pixels that they are given raw, and the library's reader must answer those pixels. The tool's frames and maps must give them, by
-their own readers, the bytes behind our header. Where the two are missing they are installed, if apt-get can do that; if not, the test is skipped.
+their own readers, the bytes behind our header. And where the tool refuses a file and names a command that helps, that command must help.
+Where the two are missing they are installed, if apt-get can do that; if not, the test is skipped.
 """
 
 import os
@@ -15,9 +16,9 @@ import tempfile
 from pathlib import Path
 
 ROOT = Path(__file__).resolve().parent.parent
-PACKAGES = ("netpbm", "imagemagick")
+PACKAGES = ("netpbm", "imagemagick", "python3-numpy", "python3-pil")      # the last two for docs/FILES.md
 VERSIONS = {"Netpbm": (["pamtopnm", "--version"], r"Netpbm ([0-9][0-9.]*)"), "ImageMagick": (["convert", "-version"], r"Version: ImageMagick ([0-9][^ ]*)")}
-counts = {"read": 0, "refused": 0, "written": 0}
+counts = {"read": 0, "refused": 0, "helped": 0, "written": 0}
 
 
 def check(true, kind, *what):
@@ -174,6 +175,54 @@ def our_files():
         check(Path("again.ppm").read_bytes() == Path("hazed.ppm").read_bytes(), "read", "a map of Netpbm")
 
 
+# ---------------------------------------------------------------------------
+# The commands that the tool names where it refuses a file
+# ---------------------------------------------------------------------------
+
+def helped(data, number, *what, name="bad.ppm"):
+    """The file is refused with the number, and the named command makes of it one that is taken, OUT or OUT.ppm, which is answered."""
+    Path(name).write_bytes(data)
+    run = subprocess.run([ROOT / "haze", "light", name], capture_output=True, text=True)
+    command = re.search(rf"refused {number}: .*; to (?:convert|scale) it: (.*)\n", run.stderr)
+    check(run.returncode == 1 and command, "helped", what, run)
+    made = subprocess.run(command[1], shell=True, capture_output=True, text=True)
+    out = Path("OUT.ppm" if "OUT.ppm" in command[1] else "OUT")
+    again = subprocess.run([ROOT / "haze", "light", out], capture_output=True, text=True)
+    check(made.returncode == 0 and again.returncode == 0, "helped", what, command[1], made, again)
+    taken = out.read_bytes()
+    out.unlink()
+    return taken
+
+
+def other_formats():
+    """Of pictures that nothing is lost of, the pixels come back."""
+    size = (37, 23)
+    raw = pixels(size)
+    netpbm, magick = raw_by(size)
+    whole = ppm_file(size, raw)
+    for number, way in ((11, [netpbm, "pnmtopng"]), (11, [magick + "png:-"]), (11, [magick + "bmp:-"]), (11, [magick + "tiff:-"]), (11, [netpbm + " -plain"]),
+                        (11, [magick + "-compress none ppm:-"]), (11, [magick + "pam:-"]), (12, [magick + "-depth 16 ppm:-"]), (12, [netpbm, "pamdepth 65535"]),
+                        (11, [magick + "-depth 16 png:-"])):
+        check(helped(through(raw, *way), number, way) == whole, "helped", way, "has other pixels")
+    for number, way in ((11, [magick + "jpeg:-"]), (11, [magick + "gif:-"]), (11, [netpbm, "ppmtopgm"]), (11, [netpbm, "ppmtopgm", "pnmtopng"]),
+                        (11, [magick + "-colors 9 png:-"]), (11, [netpbm, "ppmtopgm -plain"]), (11, [netpbm, "ppmtopgm", "pamthreshold -simple", "pamtopnm"]),
+                        (12, [netpbm, "pamdepth 15"]), (11, [magick + "-alpha set -channel A -evaluate set 50% png:-"])):
+        check(helped(through(raw, *way), number, way).startswith(b"P6\n37 23\n255\n"), "helped", way)
+
+
+SIZES = ((513, 512), (640, 480), (800, 600), (1280, 720), (1920, 1080), (1080, 1920), (1024, 257), (2000, 1500), (4000, 3000), (5000, 100), (100, 5000), (1025, 1),
+         (2000, 131), (1100, 275), (1100, 276), (1097, 271), (2048, 512), (2049, 512), (2047, 513), (3840, 2160), (2000, 1))
+
+
+def large_sizes():
+    for size in SIZES:
+        helped(through(b"", "ppmmake -maxval 255 gray %d %d" % size), 1, size)
+
+
+def ppm_file(size, raw):
+    return b"P6\n%d %d\n255\n" % size + raw
+
+
 if not all(versions().values()):
     install()
 found = versions()
@@ -186,5 +235,7 @@ with tempfile.TemporaryDirectory() as folder:
     commented_files()
     refused_files()
     our_files()
+    other_formats()
+    large_sizes()
 print("outside: %d files of" % counts["read"], " and ".join("%s %s" % pair for pair in found.items()),
-      "read alike, %d refused; %d times ours were read alike by them" % (counts["refused"], counts["written"]))
+      "read alike, %(refused)d refused; %(written)d times ours were read alike by them; the commands that the tool names helped, in %(helped)d checks" % counts)

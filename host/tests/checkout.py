@@ -1,0 +1,219 @@
+"""./haze in a checkout: what it answers before anything is built, how it builds and when, and what it installs.
+
+The checkout is a copy, and its `rt` one of the test, which says what the true one says and takes the libraries that are proved already.
+"""
+
+import os
+import re
+import shutil
+import subprocess
+import sys
+import tempfile
+import time
+from pathlib import Path
+
+from common import ROOT, X86, check, cleared, hazy, light_of, pgm, ppm, put
+from places import without_override
+
+SIZE = (16, 12)
+FRAME = hazy(SIZE, "checkout")
+LIGHT = "%d,%d,%d\n" % light_of(SIZE, FRAME)
+RT = r"""#!/bin/sh
+echo "$*" >>%(calls)s
+case $1 in
+doc) exec %(rt)s doc ;;
+staticlib)
+    [ ! -e %(broken)s ] || { echo 'rt: pixel is not proved' && exit 1; }
+    for crate in $(host/made-of crates); do case $crate in haze_*) ;; *) echo "rt: $crate proved (1 s)" ;; esac; done
+    mkdir -p target/staticlib
+    cp %(root)s/target/staticlib/lib$2.a target/staticlib/
+    echo "rt: target/staticlib/lib$2.a has the functions of $2"
+    ;;
+*) exit 2 ;;
+esac
+"""
+CHANGED = "haze: what the tool is made of has changed since it was built; it is used as it is: "
+
+
+def no_rt():
+    """A path with links to all commands but rt."""
+    if not Path("none").exists():
+        Path("none").mkdir()
+        for folder in reversed(os.environ["PATH"].split(":")):
+            for file in Path(folder).iterdir() if Path(folder).is_dir() else ():
+                if file.name not in ("rt", "rattle"):
+                    Path("none", file.name).unlink(missing_ok=True)
+                    Path("none", file.name).symlink_to(file)
+    return os.path.abspath("none")
+
+
+def haze(*words, here="copy", path=None, **how):
+    env = {**os.environ, "PATH": path or os.path.abspath("ours") + ":" + os.environ["PATH"]}
+    return subprocess.run([os.path.abspath(here + "/haze"), *words], capture_output=True, text=True, stdin=subprocess.DEVNULL, env=env, **how)
+
+
+def calls():
+    """What rt was asked since the last time, but for where it is."""
+    said = Path("calls").read_text().splitlines() if Path("calls").exists() else []
+    Path("calls").unlink(missing_ok=True)
+    return [line for line in said if line != "doc"]
+
+
+def says(run, status, out="", err=""):
+    check((run.returncode, run.stdout) == (status, out) and re.fullmatch(err, run.stderr), run, "is not", status, out, err)
+
+
+def copy():
+    shutil.copytree(ROOT, "copy", ignore=shutil.ignore_patterns("target", ".git"), symlinks=True)
+    os.mkdir("ours")
+    put("ours/rt", (RT % {"calls": os.path.abspath("calls"), "broken": os.path.abspath("broken"), "rt": shutil.which("rt"), "root": ROOT}).encode())
+    os.chmod("ours/rt", 0o755)
+    put("in.ppm", ppm(SIZE, FRAME))
+
+
+def before():
+    """Help, version and wrong words: at once, with nothing built and nothing to build with."""
+    begin = time.monotonic()
+    for words in (["help"], ["-h"], ["--help"], ["help", "clear"], ["clear", "--help"], ["--version"], ["help", "install"]):
+        says(haze(*words, path=no_rt()), 0, haze(*words).stdout)
+        check(haze(*words).stdout, words)
+    for words in ([], ["clean"], ["help", "me"]):
+        check(haze(*words, path=no_rt()).returncode == 1, words)
+    check(time.monotonic() - begin < 20, "not at once")
+    check(not Path("copy/target").exists() and calls() == [], "something was built")
+    says(haze("light", "in.ppm", path=no_rt()), 1, err="haze: the tool is not built, and cannot be: rt, the toolchain's command, is not found\n")
+    check(not Path("copy/target").exists(), "something was built")
+
+
+def first_use():
+    """A build says what it does: each crate once, the time so far, and how many are left."""
+    put("broken", b"")
+    run = haze("light", "in.ppm")
+    check(run.returncode == 1 and "rt: pixel is not proved\n" in run.stderr and run.stderr.endswith("haze: the tool could not be built\n"), run)
+    Path("broken").unlink()
+    calls()
+    run = haze("light", "in.ppm")
+    check((run.returncode, run.stdout) == (0, LIGHT), run)
+    first, *steps, last = run.stderr.splitlines()
+    check(first.startswith("haze: building the tool") and re.fullmatch(r"haze: \d+:\d\d  the tool is built", last), run.stderr)
+    crates = subprocess.run(["host/made-of", "crates"], cwd="copy", capture_output=True, text=True, check=True).stdout.split()
+    found = [re.fullmatch(r"haze: \d+:\d\d  (\w+) is proved: (\d+) of (\d+), (\d+) left", step) for step in steps]
+    check(all(found) and sorted(step[1] for step in found) == sorted(crates) and len(crates) > 15, steps)
+    check([step.group(2, 3, 4) for step in found] == [(str(k + 1), str(len(crates)), str(len(crates) - k - 1)) for k in range(len(crates))], steps)
+    check(calls() == ["staticlib haze_c", "staticlib haze_files_c"], "rt was asked for other things")
+
+
+def built():
+    """Once it is built nothing is said and nothing is asked."""
+    says(haze("light", "in.ppm"), 0, LIGHT)
+    check(calls() == [], "rt was asked")
+    says(haze("light", "in.ppm", path=no_rt()), 0, LIGHT)
+
+
+def again():
+    """It is built again when what it is made of has changed, and only then; and proved again only when a crate of it has."""
+    for name in ("README.md", "crates/text/src/lib.rt", "second/rules.py", "host/stress.c", "crates/pixel/must-fail/new.edit", "crates.txt"):
+        with open("copy/" + name, "a") as file:
+            file.write("\n")
+        says(haze("light", "in.ppm"), 0, LIGHT)
+    for name in ("host/tool/say.c", "crates/pixel/src/lib.rt", "include/haze.h"):
+        os.utime("copy/" + name)
+        says(haze("light", "in.ppm"), 0, LIGHT)
+    check(calls() == [], "rt was asked")
+    wanted = r"haze: building the tool.*\n(haze: .* is proved: .*\n)*haze: 0:\d\d  the tool is built\n"
+    for name, asked in (("host/tool/say.c", []), ("host/help/map.txt", []), ("include/haze.h", []), ("crates/pixel/src/lib.rt", ["staticlib haze_c", "staticlib haze_files_c"])):
+        with open("copy/" + name, "a") as file:
+            file.write("\n")
+        says(haze("light", "in.ppm"), 0, LIGHT, wanted)
+        check(calls() == asked, name, "changed, and rt was asked for something else")
+    says(haze("light", "in.ppm"), 0, LIGHT)
+
+
+def linked():
+    os.makedirs("elsewhere")
+    os.symlink(os.path.abspath("copy/haze"), "elsewhere/haze")
+    os.symlink("../elsewhere/haze", "ours/linked")
+    says(haze("light", "in.ppm", here="elsewhere"), 0, LIGHT)
+    run = subprocess.run(["linked", "light", "in.ppm"], capture_output=True, text=True, env={**os.environ, "PATH": os.path.abspath("ours") + ":" + os.environ["PATH"]})
+    says(run, 0, LIGHT)
+
+
+def shut():
+    """In a checkout that cannot be written a tool that is built runs; it says so where it is not that of the sources."""
+    subprocess.run(["chmod", "-R", "a-w", "copy"], check=True)
+    says(haze("light", "in.ppm", preexec_fn=without_override), 0, LIGHT)
+    os.utime("copy/include/haze.h")
+    says(haze("light", "in.ppm", preexec_fn=without_override), 0, LIGHT)
+    with open("copy/include/haze.h", "a") as file:
+        file.write("\n")
+    says(haze("light", "in.ppm", preexec_fn=without_override), 0, LIGHT, re.escape(CHANGED + os.path.abspath("copy") + " cannot be written\n"))
+    says(haze("light", "in.ppm", path=no_rt()), 0, LIGHT, re.escape(CHANGED + "rt, the toolchain's command, is not found\n"))
+    os.rename("copy/target", "target")
+    says(haze("light", "in.ppm", preexec_fn=without_override), 1,
+         err=re.escape(f"haze: the tool is not built, and cannot be: {os.path.abspath('copy')} cannot be written\n"))
+    os.rename("target", "copy/target")
+    subprocess.run(["chmod", "-R", "u+w", "copy"], check=True)
+
+
+# ---------------------------------------------------------------------------
+# What is installed
+# ---------------------------------------------------------------------------
+
+FILES = ("bin/haze", "lib/libhaze.a", "include/haze.h", "lib/pkgconfig/haze.pc", "share/man/man1/haze.1")
+
+
+def alone(*words, **how):
+    """The installed tool, with nothing in its environment and on its path."""
+    return subprocess.run([os.path.abspath("prefix/bin/haze"), *words], capture_output=True, text=True, stdin=subprocess.DEVNULL, env={}, **how)
+
+
+def installed():
+    for words in ([], ["a", "b"], ["-x"], [""]):
+        run = haze("install", *words)
+        check(run.returncode == 1 and run.stderr.startswith("haze: ") and run.stdout == "", run)
+    if not X86:
+        check("the library is for x86-64" in haze("install", "prefix").stderr, "install on another machine")
+        return
+    run = haze("install", "prefix")
+    check(run.returncode == 0 and run.stdout.split() == [os.path.abspath("prefix/" + name) for name in FILES], run)
+    check(sorted(str(path.relative_to("prefix")) for path in Path("prefix").rglob("*") if path.is_file()) == sorted(FILES), "other files than those")
+    os.rename("copy", "gone")
+    says(alone("light", "in.ppm"), 0, LIGHT)
+    says(alone("clear", "in.ppm", "out.ppm"), 0)
+    check(Path("out.ppm").read_bytes() == ppm(SIZE, cleared(SIZE, FRAME)[1]), "the installed tool's picture")
+    check(alone("help", "clear").stdout.startswith("haze clear IN.ppm"), "the installed tool's help")
+    os.rename("gone", "copy")
+    staged = subprocess.run(["copy/haze", "install", "/usr"], capture_output=True, text=True,
+                            env={**os.environ, "DESTDIR": os.path.abspath("stage"), "PATH": os.path.abspath("ours") + ":" + os.environ["PATH"]})
+    check(staged.returncode == 0 and Path("stage/usr/bin/haze").exists() and "prefix=/usr\n" in Path("stage/usr/lib/pkgconfig/haze.pc").read_text(), staged)
+
+
+def library():
+    """A program over the installed library, by the system's compiler and pkg-config where there are some."""
+    if not X86 or not shutil.which("cc"):
+        return
+    flags = ["-I" + os.path.abspath("prefix/include"), "-L" + os.path.abspath("prefix/lib"), "-lhaze"]
+    if shutil.which("pkg-config"):
+        env = {**os.environ, "PKG_CONFIG_PATH": os.path.abspath("prefix/lib/pkgconfig")}
+        asked = subprocess.run(["pkg-config", "--cflags", "--libs", "haze"], capture_output=True, text=True, env=env)
+        check(asked.stdout.split() == flags, asked, flags)
+        version = subprocess.run(["pkg-config", "--modversion", "haze"], capture_output=True, text=True, env=env).stdout
+        check(haze("--version").stdout == "haze " + version, version)
+    subprocess.run(["cc", ROOT / "examples/host.c", *flags, "-o", "example"], check=True)
+    said = subprocess.run([os.path.abspath("example")], capture_output=True, text=True)
+    check((said.returncode, said.stdout) == (0, (ROOT / "examples/host.txt").read_text()), said)
+
+
+def man_page():
+    """Without a warning, with every page in it, and each example as it stands."""
+    if not X86 or not shutil.which("groff"):
+        return
+    run = subprocess.run(["groff", "-man", "-Tascii", "-P-cbou", "-ww", "-rLL=200n", "-rHY=0", "prefix/share/man/man1/haze.1"], capture_output=True, text=True)
+    check((run.returncode, run.stderr) == (0, ""), run.stderr)
+    text = " ".join(run.stdout.split())
+    for page in (ROOT / "host/help").glob("*.txt"):
+        for line in page.read_text().splitlines():
+            check(" ".join(line.split()) in text, page.stem, "misses in the man page:", line)
+
+
+ALL = (copy, before, first_use, built, again, linked, shut, installed, library, man_page)

@@ -1,0 +1,233 @@
+"""What the tool refuses, and in which words."""
+
+import re
+from pathlib import Path
+
+import common
+import rules
+from common import NAMES, check, haze, hazy, pgm, ppm, put, refused
+from written import words_of
+
+SIZE = "width or height is not 1 to 1024, or there are more than 262144 pixels"
+LEFT = r"the pixels are short or bytes are left over; the header announces %d bytes of them, and %s"
+
+
+def header(what):
+    return "refused 11: the header is bad; " + re.escape(what)
+
+
+def looks(what, convert):
+    return header(f"it looks like {what}; to convert it: {convert}")
+
+
+def as_frame(name):
+    return f"convert {name} -depth 8 ppm:OUT.ppm"
+
+
+def as_map(name):
+    return f"convert {name} -depth 16 pgm:OUT.pgm, then the word `scaled`"
+
+
+FORMATS = (("a PNG file", b"\x89PNG\r\n\x1a\n\0\0\0\rIHDR"), ("a JPEG file", b"\xff\xd8\xff\xe0\0\x10JFIF\0"), ("a GIF file", b"GIF89a\1\0"),
+           ("a BMP file", b"BM\x36\0"), ("a TIFF file", b"II*\0\x08\0\0\0"), ("a TIFF file", b"MM\0*\0\0\0\x08"), ("a WebP file", b"RIFF\x10\0\0\0WEBPVP8 "),
+           ("a plain PBM file (P1)", b"P1\n1 1\n0\n"), ("a plain PGM file (P2)", b"P2\n1 1\n255\n7\n"), ("a plain PPM file (P3)", b"P3\n1 1\n255\n7 8 9\n"),
+           ("a PBM file (P4)", b"P4\n1 1\n\0"), ("a PAM file (P7)", b"P7\nWIDTH 1\n"))
+
+
+def bad_frames():
+    whole = ppm((3, 2), range(18))
+    layout = header("behind P6 stand width, height and maximum, 1 to 6 digits each, then one white byte")
+    empty, other = header("the file is empty"), header("it does not begin with P6")
+    yield from ((layout, data) for data in (b"P6", whole.replace(b"3", b"0000003", 1), b"P6\n3 2\n255", b"P6 # no end", whole.replace(b"3 2", b"3\v2"),
+                                            whole.replace(b"255\n", b"255#\n")))
+    yield from ((other, data) for data in (whole.replace(b"P6", b"p6"), b"x", b"P", b"RIF", b"\x89PN", b"\xff\xd8", b"\0" * 5000))
+    yield empty, b""
+    yield from ((looks(name, as_frame("bad.ppm")), data) for name, data in (*FORMATS, ("a PGM file (P5)", pgm((1, 1), [5]))))
+    for size, scale in (((1025, 1), "-xyfit 1024 1024"), ((640, 480), "-pixels 262144"), ((1024, 257), "-pixels 261500"), ((2000, 1500), "-pixels 262144"),
+                        ((1920, 1080), "-pixels 261500"), ((1280, 720), "-pixels 261500"), ((1080, 1920), "-pixels 261500"),
+                        ((999999, 1), "-xyfit 1024 1024"), ((1500, 6100), "-xyfit 1024 1024"), ((999999, 999999), "-pixels 262144")):
+        yield f"refused 1: {SIZE}; it is {size[0]} by {size[1]}; to scale it: pamscale {scale} bad.ppm >OUT", ppm(size, [])
+    for size in ((0, 2), (3, 0), (0, 0)):
+        yield f"refused 1: {SIZE}; it is {size[0]} by {size[1]}", ppm(size, [], 65535)
+    for maximum in (65535, 1, 254, 256):
+        yield f"refused 12: the maximum is not 255; it is {maximum}; to convert it: {as_frame('bad.ppm')}", ppm((3, 2), range(18), maximum)
+    for maximum in (0, 65536, 999999):
+        yield f"refused 12: the maximum is not 255; it is {maximum}", ppm((3, 2), range(18), maximum)
+    for count in (0, 1, 17):
+        yield "refused 13: " + LEFT % (18, f"{count} are there"), whole[:len(whole) - 18 + count]
+    yield from (("refused 13: " + LEFT % (18, "more follow"), data) for data in (whole + b"\0", whole + whole, whole.replace(b"255\n", b"255\r\n")))
+
+
+def files():
+    put("map.pgm", pgm((3, 2), range(6)))
+    for why, data in bad_frames():
+        put("bad.ppm", data)
+        for words in (["clear", "bad.ppm", "fresh"], ["add", "bad.ppm", "map.pgm", "fresh"], ["light", "bad.ppm"], ["clear", "bad.ppm", "bad.ppm"],
+                      ["map", "bad.ppm", "fresh"], ["depth", "bad.ppm", "fresh"], ["band", "bad.ppm", "0", "1"], ["add", "bad.ppm", "fresh", "t=1"]):
+            refused(words, "bad.ppm: " + why)
+        run = haze("clear", "-", "fresh", text=False, input=data)
+        check(run.returncode == 1 and re.fullmatch("haze: standard input: " + re.sub(r"bad\\?\.ppm", "IN", why), run.stderr.decode()[:-1]), why, run)
+    for name in ("a b.ppm", "a'b.ppm", "$x.ppm", "-.ppm"):
+        put(name, b"GIF89a")
+        refused(["clear", "--", name, "fresh"], re.escape(name) + ": " + looks("a GIF file", as_frame("IN")))
+    put("a\n\x1b[31mb", b"GIF89a")
+    refused(["clear", "a\n\x1b[31mb", "fresh"], re.escape("a??[31mb: ") + looks("a GIF file", as_frame("IN")))
+
+
+def maps():
+    whole = pgm((3, 2), range(6))
+    maximum = "refused 12: the maximum of a map is not 10000; it is {}; `raw` takes the numbers as they stand, `scaled` takes the maximum as 10000"
+    layout = header("behind P5 stand width, height and maximum, 1 to 6 digits each, then one white byte")
+    bad = [(header("the file is empty"), b""), (layout, whole[:12]), (layout, whole.replace(b"3 2", b"3,2")),
+           (header("it looks like a PPM file (P6), a frame"), ppm((3, 2), range(18))), *((looks(name, as_map("bad.pgm")), data) for name, data in FORMATS),
+           (f"refused 1: {SIZE}; it is 0 by 2", pgm((0, 2), [])),
+           (f"refused 1: {SIZE}; it is 513 by 512; to scale it: pamscale -pixels 261500 bad.pgm >OUT", pgm((513, 512), [], 255)),
+           ("refused 13: " + LEFT % (12, "11 are there"), whole[:-1]), ("refused 13: " + LEFT % (12, "more follow"), whole + b"\0"),
+           ("refused 13: " + LEFT % (12, "more follow"), whole + whole),
+           ("refused 8: an entry of the map is above 10000; it is 10001 in column 2 of row 1", pgm((3, 2), [0, 1, 2, 3, 4, 10001])),
+           ("refused 8: an entry of the map is above 10000; it is 65535 in column 0 of row 0", pgm((3, 2), [65535, 1, 2, 3, 4, 5]))]
+    bad += [(maximum.format(most), pgm((3, 2), range(6), most)) for most in (65535, 918, 255, 0, 9999, 999999)]
+    for why, data in bad:
+        put("bad.pgm", data)
+        refused(["add", "frame.ppm", "bad.pgm", "fresh"], "bad.pgm: " + why)
+        if "maximum" not in why:
+            refused(["view", "bad.pgm", "fresh"], "bad.pgm: " + why)
+    for size in ((2, 3), (6, 1), (3, 1), (4, 2)):
+        put("bad.pgm", pgm(size, [10001] * (size[0] * size[1])))
+        for words in ([], ["light=0,1,1"]):
+            refused(["add", "frame.ppm", "bad.pgm", "fresh", *words], "bad.pgm: refused 4: the map is %d by %d, the frame frame.ppm is 3 by 2" % size)
+    put("bad.pgm", pgm((3, 2), [10001] * 6))
+    refused(["add", "frame.ppm", "bad.pgm", "fresh", "light=1,0,1"], "light=1,0,1: refused 5: a channel of the light is 0")
+
+
+def maps_of_others():
+    """With raw and scaled: the maxima that a PGM file has, and samples above them."""
+    for most in (0, 65536, 999999):
+        put("bad.pgm", pgm((3, 2), range(6), most)[:14] + bytes(12))
+        for word in ("raw", "scaled"):
+            refused(["add", "frame.ppm", "bad.pgm", "fresh", word], "bad.pgm: refused 12: .*; it is %d; .*" % most)
+    above = "bad.pgm: refused 8: an entry of the map is above 10000; it is %d in column 1 of row 1"
+    for most, sample, word, entry in ((65535, 10001, "raw", 10001), (16383, 16384, "scaled", 10001), (255, 255, "raw", None), (100, 101, "scaled", 10100),
+                                      (7, 255, "scaled", 65535)):
+        put("bad.pgm", pgm((3, 2), [0, 0, 0, 0, sample, 0], most))
+        if entry:
+            refused(["add", "frame.ppm", "bad.pgm", "fresh", word], above % entry)
+            refused(["view", "bad.pgm", "fresh", word], above % entry)
+    neither = r"bad.pgm: refused 12: the maximum of a map is not 10000, nor that of depths, 918; it is %d; .*"
+    for most in (0, 255, 919, 65535):
+        put("bad.pgm", pgm((3, 2), range(6), most))
+        refused(["view", "bad.pgm", "fresh"], neither % most)
+    put("bad.pgm", pgm((3, 2), range(6), 10000))
+    refused(["view", "bad.pgm", "fresh", "depth"], "bad.pgm: refused 12: the maximum of depths is not 918; it is 10000; .* as 918")
+    for most, words in ((918, []), (65535, ["raw", "depth"])):
+        put("bad.pgm", pgm((3, 2), [0, 0, 919, 0, 0, 0], most))
+        refused(["view", "bad.pgm", "fresh", *words], "bad.pgm: a depth is above 918; it is 919 in column 2 of row 0")
+    put("bad.pgm", pgm((3, 2), [918, 0, 0, 0, 0, 0], 918))
+    check(haze("view", "bad.pgm", "good.ppm").returncode == 0 and Path("good.ppm").exists(), "depths up to 918 are shown")
+    Path("good.ppm").unlink()
+
+
+def settings():
+    for name, (least, most) in zip(NAMES, rules.SETTINGS):
+        for value in [most + 1, 2**64 - 1] + [0] * (least > 0):
+            for command in ("clear", "map", "depth"):
+                refused([command, "frame.ppm", "fresh", f"{name}={value}"],
+                        f"{name}={value}: refused 2: a setting is outside its range; {name} goes from {least} to {most}")
+            refused(["light", "frame.ppm", f"{name}={value}"], f"{name}={value}: refused 2: .*")
+        for value in (least, most):
+            check(haze("light", "frame.ppm", f"{name}={value}").returncode == 0, name, value, "is refused")
+    run = haze("map", "frame.ppm", "fresh", "t0=0", "s=31", "light=0,1,1")
+    check(re.findall("haze: (.*): refused (.*?):", run.stderr) == [("s=31", "2"), ("t0=0", "2")], run)
+    for light in ("0,1,1", "1,0,1", "1,1,0"):
+        for command in ("clear", "depth"):
+            refused([command, "frame.ppm", "fresh", "light=" + light], f"light={light}: refused 5: a channel of the light is 0")
+    for t in (10001, 65536, 2**64 - 1):
+        refused(["add", "frame.ppm", "fresh", f"t={t}"], f"t={t}: refused 8: an entry of the map is above 10000")
+    for start, end in ((0, 0), (1, 1), (1, 0), (0, 3), (2, 3), (2**64 - 1, 1), (0, 2**64 - 1)):
+        refused(["band", "frame.ppm", str(start), str(end)],
+                f"frame.ppm: refused 6: the rectangle or the band is empty or reaches outside the frame; rows {start} to {end}, the last left out, of 2")
+
+
+PLACES = {"clear": ["IN.ppm", "OUT.ppm"], "map": ["IN.ppm", "MAP.pgm"], "depth": ["IN.ppm", "DEPTH.pgm"], "light": ["IN.ppm"], "band": ["IN.ppm", "FROM", "TO"],
+          "add": ["CLEAN.ppm", "MAP.pgm", "OUT.ppm"], "view": ["MAP-OR-DEPTH.pgm", "OUT.ppm"]}
+GOOD = {"clear": ["frame.ppm", "fresh"], "map": ["frame.ppm", "fresh"], "depth": ["frame.ppm", "fresh"], "light": ["frame.ppm"],
+        "band": ["frame.ppm", "0", "1"], "add": ["frame.ppm", "map.pgm", "fresh"], "view": ["map.pgm", "fresh"]}
+
+
+def words():
+    put("map.pgm", pgm((3, 2), range(6)))
+    refused([], "a command is wanted")
+    for word in ("clean", "Clear", "", "settings", "haze", "--versions", "-v"):
+        refused([word, "frame.ppm", "fresh"], f"this is no command: {word}")
+    for command, places in PLACES.items():
+        good = GOOD[command]
+        for count, place in enumerate(places):
+            refused([command, *good[:count]], "a word is missing: " + re.escape(place))
+            for word in ("s=5", "light=1,2,3", "map=x", "Q9=", "date=2.ppm"):
+                refused([command, *good[:count], word, *good[count + 1:]],
+                        re.escape(f"{word} stands where {place} is wanted; settings come behind the files, and a file of that name is written ./{word}"))
+        for word in ("more.ppm", "", "7", "-"):
+            refused([command, *good, word], f"this is a word more than it takes: {word}")
+        for word in ("q=1", "S=7", "t1=1000", "omeg=1"):
+            refused([command, *good, word], f"this is no setting here: {word}")
+        for word in ("-s", "-x", "--verbose", "-vv", "-s=7"):
+            refused([command, *good, word], re.escape("this is no option here (behind -- it is the name of a file): ") + word)
+            refused([command, word, *good], re.escape("this is no option here (behind -- it is the name of a file): ") + word)
+    for command in ("add", "view"):
+        for word in words_of(rules.DEFAULTS) + ["map=m", "depth=d"]:
+            refused([command, *GOOD[command], word], f"this is no setting here: {word}")
+    for word in ("s=", "s=-1", "s=+7", "s=7x", "s= 7", "s=0x7", f"s={2**64}", f"s={10**20 - 1}", "s=" + "7".zfill(21),
+                 "light=", "light=1,2", "light=1,2,3,4", "light=1,2,3,", "light=,2,3", "light=1;2;3", "light=256,1,1", "light=1,1,999"):
+        refused(["clear", "frame.ppm", "fresh", word], "this is no number, or too large: " + re.escape(word))
+    refused(["add", "frame.ppm", "fresh", "t="], "this is no number, or too large: t=")
+    for word in ("s=7", "light=1,2,3", "map=m", "depth=d"):
+        refused(["clear", "frame.ppm", "fresh", word, "r=2", word], f"this setting stands twice: {word}")
+    for word in ("map=", "depth="):
+        refused(["clear", "frame.ppm", "fresh", word], "a file's name is missing: " + word)
+    refused(["light", "frame.ppm", "light=1,2,3"], "this is no setting here: light=1,2,3")
+    refused(["clear", "one.ppm", "frame.ppm", "fresh"], "this is a word more than it takes: fresh")
+    for words in (["frame.ppm", "x", "1"], ["frame.ppm", "0", "-"], ["frame.ppm", "1x", "2"], ["frame.ppm", str(2**64), "2"]):
+        refused(["band", *words], "this is no number of a row: .*")
+
+
+def words_together():
+    """Words that are good alone and mean nothing together."""
+    both = {"add": "a map is either raw or scaled", "view": "the numbers are either raw or scaled"}
+    for command, why in both.items():
+        refused([command, *GOOD[command], "raw", "scaled"], why)
+    for word in ("raw", "scaled"):
+        refused(["add", "frame.ppm", "fresh", "t=5000", word], "with t= there is no map that could be " + word)
+    refused(["add", "frame.ppm", "map.pgm", "fresh", "t=5000"], "this is a word more than it takes: fresh")
+    refused(["add", "-", "-", "fresh"], "standard input can be read once, not twice")
+    refused(["clear", "frame.ppm", "fresh", "map=fresh"], "fresh: cannot be written: two files of this run would go there")
+    refused(["clear", "frame.ppm", "fresh", "map=one", "depth=./one"], "./one: cannot be written: two files of this run would go there")
+    refused(["clear", "frame.ppm", "-", "map=-"], "standard output: cannot be written: two files of this run would go there")
+
+
+def several():
+    Path("to").mkdir()
+    Path("a").mkdir()
+    put("a/frame.ppm", Path("frame.ppm").read_bytes())
+    refused(["clear", "-o"], "the name of a folder is missing behind -o")
+    refused(["clear", "frame.ppm", "-o", "to", "-o", "to"], "this option stands twice: -o")
+    refused(["map", "frame.ppm", "fresh", "-o", "to"], ".*this is no option here.*: -o")
+    refused(["clear", "-o", "to"], "a word is missing: IN.ppm")
+    refused(["clear", "-o", "to", "s=5", "frame.ppm"], "s=5 stands where IN.ppm is wanted.*")
+    refused(["clear", "-o", "to", "frame.ppm", "T0=3000"], "this is no setting here: T0=3000")
+    refused(["clear", "-o", "to", "frame.ppm", "s=5", "a/frame.ppm"], "this is a word more than it takes: a/frame.ppm")
+    refused(["clear", "-o", "to", "frame.ppm", "map=m.pgm"], "with -o there is no map=")
+    refused(["clear", "-o", "to", "frame.ppm", "a/frame.ppm"], "a/frame.ppm: another frame of this run has the same name; in to there can be one")
+    refused(["clear", "-o", ".", "frame.ppm"], "frame.ppm: stands in . and would be replaced itself; name another folder")
+    refused(["clear", "-o", "a/../a", "a/frame.ppm"], "a/frame.ppm: stands in a/../a and would be replaced itself; name another folder")
+    refused(["clear", "-o", "to", "-"], "with -o every frame is a file; standard input has no name to go by")
+    for folder in ("none", "frame.ppm"):
+        refused(["clear", "-o", folder, "a/frame.ppm"], f"{folder}: is not a folder; make it first: mkdir {folder}")
+    refused(["clear", "-o", "to", "frame.ppm", "s=31"], "s=31: refused 2: .*")
+    refused(["clear", "-o", "to", "frame.ppm", "light=0,1,1"], "light=0,1,1: refused 5: .*")
+
+
+def frame():
+    put("frame.ppm", ppm((3, 2), range(100, 118)))
+
+
+ALL = (frame, files, maps, maps_of_others, settings, words, words_together, several)
