@@ -36,6 +36,7 @@ $0 == "" { heading(".PP", ""); next }
 $0 == "Examples" || $0 == "What to do when" { heading(".SS", plain($0)); next }
 {
     kept(use || $0 ~ /^ /)
+    sub(/^  /, "")
     print plain($0)
 }
 END { kept(0) }

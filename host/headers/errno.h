@@ -3,6 +3,7 @@
 #define ERRNO_H
 int *__errno_location(void);
 #define errno (*__errno_location())
+#define ENOENT 2
 #define EINTR 4
 #define EBADF 9
 #define EEXIST 17

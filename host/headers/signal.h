@@ -12,22 +12,21 @@ struct sigaction {
     void (*sa_restorer)(void);
 };
 _Static_assert(sizeof(struct sigaction) == 152, "the C library reads 152 bytes");
-#define SIGHUP 1
-#define SIGINT 2
-#define SIGQUIT 3
-#define SIGPIPE 13
-#define SIGALRM 14
-#define SIGTERM 15
-#define SIGXCPU 24
-#define SIGXFSZ 25
+#define SIGKILL 9
+#define SIGCHLD 17
+#define SIGCONT 18
+#define SIGSTOP 19
+#define SIGTSTP 20
+#define SIGTTIN 21
+#define SIGTTOU 22
+#define SIGURG 23
+#define SIGWINCH 28
+#define SIGRTMAX 64
 #define SIG_DFL ((void (*)(int))0)
-#define SIG_IGN ((void (*)(int))1)
 #define SIG_BLOCK 0
 #define SIG_SETMASK 2
-#define SA_RESETHAND ((int)0x80000000)
 int sigaction(int number, const struct sigaction *new_one, struct sigaction *old_one);
 int sigprocmask(int how, const sigset_t *set, sigset_t *old_set);
-int sigemptyset(sigset_t *set);
-int sigaddset(sigset_t *set, int number);
+int sigfillset(sigset_t *set);
 int raise(int number);
 #endif

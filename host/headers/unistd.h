@@ -9,6 +9,7 @@ typedef long ssize_t;
 ssize_t read(int file, void *to, size_t room);
 ssize_t write(int file, const void *from, size_t length);
 int close(int file);
+int fchown(int file, unsigned user, unsigned group);
 int fsync(int file);
 int isatty(int file);
 int unlinkat(int folder, const char *path, int how);

@@ -7,8 +7,7 @@ import os
 import re
 import shutil
 import subprocess
-import sys
-import tempfile
+import threading
 import time
 from pathlib import Path
 
@@ -74,7 +73,8 @@ def copy():
 def before():
     """Help, version and wrong words: at once, with nothing built and nothing to build with."""
     begin = time.monotonic()
-    for words in (["help"], ["-h"], ["--help"], ["help", "clear"], ["clear", "--help"], ["--version"], ["help", "install"]):
+    for words in (["help"], ["-h"], ["--help"], ["help", "clear"], ["clear", "--help"], ["clear", "in.ppm", "-h"], ["--version"], ["help", "install"],
+                  ["install", "--help"], ["demo", "-h"]):
         says(haze(*words, path=no_rt()), 0, haze(*words).stdout)
         check(haze(*words).stdout, words)
     for words in ([], ["clean"], ["help", "me"]):
@@ -112,7 +112,8 @@ def built():
 
 def again():
     """It is built again when what it is made of has changed, and only then; and proved again only when a crate of it has."""
-    for name in ("README.md", "crates/text/src/lib.rt", "second/rules.py", "host/stress.c", "crates/pixel/must-fail/new.edit", "crates.txt"):
+    for name in ("README.md", "crates/text/src/lib.rt", "second/rules.py", "host/stress.c", "crates/pixel/must-fail/new.edit", "crates.txt",
+                 "host/tool/say.c~", "host/tool/.say.c.swp", "crates/pixel/src/lib.rt~"):
         with open("copy/" + name, "a") as file:
             file.write("\n")
         says(haze("light", "in.ppm"), 0, LIGHT)
@@ -127,6 +128,21 @@ def again():
         says(haze("light", "in.ppm"), 0, LIGHT, wanted)
         check(calls() == asked, name, "changed, and rt was asked for something else")
     says(haze("light", "in.ppm"), 0, LIGHT)
+
+
+def two_at_once():
+    """Of two that find it to be built one builds, and the other says that it waits."""
+    with open("copy/host/tool/say.c", "a") as file:
+        file.write("\n")
+    both = [threading.Thread(target=lambda: runs.append(haze("light", "in.ppm"))) for _ in range(2)]
+    runs = []
+    for one in both:
+        one.start()
+    for one in both:
+        one.join()
+    check([(run.returncode, run.stdout) for run in runs] == [(0, LIGHT)] * 2, runs)
+    said = sorted(run.stderr.count("\n") for run in runs)
+    check(said[0] <= 1 and said[1] == 2 and ("waiting for it" in runs[0].stderr + runs[1].stderr or said[0] == 0), runs)
 
 
 def linked():
@@ -168,9 +184,9 @@ def alone(*words, **how):
 
 
 def installed():
-    for words in ([], ["a", "b"], ["-x"], [""]):
+    for words in ([], ["a", "b"], ["-x"], [""], ["pre fix"], ["p&q"], ["p|r"], ["p\\nq"], ["p'q"]):
         run = haze("install", *words)
-        check(run.returncode == 1 and run.stderr.startswith("haze: ") and run.stdout == "", run)
+        check(run.returncode == 1 and run.stderr.startswith("haze: ") and run.stderr.count("\n") == 1 and run.stdout == "", run)
     if not X86:
         check("the library is for x86-64" in haze("install", "prefix").stderr, "install on another machine")
         return
@@ -183,9 +199,16 @@ def installed():
     check(Path("out.ppm").read_bytes() == ppm(SIZE, cleared(SIZE, FRAME)[1]), "the installed tool's picture")
     check(alone("help", "clear").stdout.startswith("haze clear IN.ppm"), "the installed tool's help")
     os.rename("gone", "copy")
-    staged = subprocess.run(["copy/haze", "install", "/usr"], capture_output=True, text=True,
-                            env={**os.environ, "DESTDIR": os.path.abspath("stage"), "PATH": os.path.abspath("ours") + ":" + os.environ["PATH"]})
-    check(staged.returncode == 0 and Path("stage/usr/bin/haze").exists() and "prefix=/usr\n" in Path("stage/usr/lib/pkgconfig/haze.pc").read_text(), staged)
+    for folder in (os.path.abspath("stage"), "other"):
+        staged = subprocess.run([os.path.abspath("copy/haze"), "install", "/usr/"], capture_output=True, text=True, umask=0o077,
+                                env={**os.environ, "DESTDIR": folder, "PATH": os.path.abspath("ours") + ":" + os.environ["PATH"]})
+        check(staged.returncode == 0 and os.path.abspath(folder + "/usr/bin/haze") in staged.stdout, staged)
+        check("prefix=/usr\n" in Path(folder, "usr/lib/pkgconfig/haze.pc").read_text() and os.stat(folder + "/usr/bin").st_mode & 0o777 == 0o755, staged)
+    Path("full").mkdir()
+    Path("full/bin").write_text("in the way")
+    run = haze("install", "full")
+    check(run.returncode == 1 and run.stderr.endswith("full/bin/haze: cannot be written\n") and os.listdir("full") == ["bin"], run)
+    says(haze("install", "prefix", path=no_rt()), 0, "".join(os.path.abspath("prefix/" + name) + "\n" for name in FILES))
 
 
 def library():
@@ -208,12 +231,13 @@ def man_page():
     """Without a warning, with every page in it, and each example as it stands."""
     if not X86 or not shutil.which("groff"):
         return
-    run = subprocess.run(["groff", "-man", "-Tascii", "-P-cbou", "-ww", "-rLL=200n", "-rHY=0", "prefix/share/man/man1/haze.1"], capture_output=True, text=True)
+    run = subprocess.run(["groff", "-man", "-Tascii", "-P-cbou", "-ww", "-rLL=78n", "-rHY=0", "prefix/share/man/man1/haze.1"], capture_output=True, text=True)
     check((run.returncode, run.stderr) == (0, ""), run.stderr)
+    check(all(len(line) <= 80 for line in run.stdout.splitlines()), "lines that are too long for 80 columns")
     text = " ".join(run.stdout.split())
     for page in (ROOT / "host/help").glob("*.txt"):
         for line in page.read_text().splitlines():
             check(" ".join(line.split()) in text, page.stem, "misses in the man page:", line)
 
 
-ALL = (copy, before, first_use, built, again, linked, shut, installed, library, man_page)
+ALL = (copy, before, first_use, built, again, two_at_once, linked, shut, installed, library, man_page)

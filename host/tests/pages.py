@@ -36,7 +36,8 @@ def same():
 
 def wrong():
     """What is wrong before any command is the same from both."""
-    for words in ([], ["clean"], [""], ["help", "me"], ["help", "clear", "map"], ["help", "../help/clear"], ["settings"], ["--version", "x"], ["haze"]):
+    for words in ([], ["clean"], [""], ["help", "me"], ["help", "clear", "map"], ["help", "../help/clear"], ["settings"], ["--version", "x"], ["haze"], ["help", ""],
+                  ["a\x1b[31mb\nhaze: c\\033"]):
         ours, theirs = haze(*words), haze(*words, command=checkout)
         check(ours.returncode == theirs.returncode == 1 and ours.stdout == theirs.stdout == "", words, ours, theirs)
         check(ours.stderr == theirs.stderr and ours.stderr.startswith("haze: "), words, ours, theirs)

@@ -68,7 +68,7 @@ def full_disk():
     for count in (0, 1, 20000):
         refused(["clear", "large.ppm", "fresh"], "fresh: cannot be written: File too large", **at_most(count))
     refused(["clear", "large.ppm", "fresh", "map=m.pgm"], "fresh: cannot be written: File too large", **at_most(20100))
-    refused(["map", "large.ppm", "large.ppm"], "large.ppm: cannot be written: File too large", **at_most(100))
+    refused(["clear", "large.ppm", "large.ppm"], "large.ppm: cannot be written: File too large", **at_most(100))
 
 
 def long_names():
@@ -78,7 +78,7 @@ def long_names():
     for name in ("x" * most, "ü" * (most // 2), "x" + "ü" * ((most - 1) // 2)):
         done(["clear", "frame.ppm", name], (name, picture))
         check(not [path for path in Path(".").iterdir() if path.name.endswith(".new")], "a new file is left")
-    refused(["clear", "frame.ppm", "x" * (most + 1)], "x+: cannot be written: File name too long")
+    refused(["clear", "frame.ppm", "x" * (most + 1), "map=m.pgm"], "x+: cannot be written: File name too long")
     # a path that is as long as it can be: PATH_MAX counts the byte behind it
     here = os.getcwd()
     path, room = "deep/", os.pathconf(".", "PC_PATH_MAX") - 1
@@ -100,7 +100,7 @@ def leftovers():
     names = [f"taken.ppm.{k}.new" for k in range(120)]
     for name in names:
         put(name, b"left")
-    said = "".join(f"haze: {name} is left from a run that was killed; it can be removed\n" for name in names)
+    said = "".join(f"haze: {name}: nobody writes it; a run that was killed may have left it\n" for name in names)
     done(["clear", "frame.ppm", "taken.ppm"], ("taken.ppm", picture), said=said)
     check(all(Path(name).read_bytes() == b"left" for name in names), "what was left was touched")
     for name in names[1:]:
@@ -119,7 +119,7 @@ def leftovers():
         Path("odd.0.new").unlink(missing_ok=True)
         kind("odd.0.new")
         run = haze("clear", "frame.ppm", "odd", timeout=60)
-        check(run.returncode == 0 and Path("odd").read_bytes() == picture, run)
+        check((run.returncode, run.stderr) == (0, "") and Path("odd").read_bytes() == picture, run)
         if os.path.isdir("odd.0.new"):
             os.rmdir("odd.0.new")
 
@@ -151,7 +151,7 @@ def order():
     log = Path("log").read_text().splitlines()
     check([line for line in log if not line.startswith("write")] ==
           ["flock folder", "flock file", "flock folder", "fchmod file", "fsync file", "renameat out.ppm.0.new out.ppm", "fsync folder"], log)
-    check(log.index("write file") < log.index("fsync file"), log)
+    check(log.index("fchmod file") < log.index("write file") < log.index("fsync file"), log)
     Path("log").unlink()
     done(["clear", "frame.ppm", "out.ppm", "map=m.pgm", "depth=d.pgm"], **with_faults(log="log"))
     log = [line for line in Path("log").read_text().splitlines() if line.startswith(("fsync", "renameat"))]
@@ -182,7 +182,9 @@ def until(true):
     check(true(), "what was waited for did not come")
 
 
-SIGNALS = (signal.SIGINT, signal.SIGTERM, signal.SIGHUP, signal.SIGQUIT, signal.SIGALRM, signal.SIGXCPU, signal.SIGPIPE)
+# those that end a program; a sanitizer has its own way with some
+SIGNALS = tuple(getattr(signal, "SIG" + name) for name in "INT TERM HUP QUIT ALRM XCPU PIPE USR1 USR2 VTALRM PROF IO PWR XFSZ SYS".split()) + (signal.SIGRTMIN,)
+HARMLESS = (signal.SIGCHLD, signal.SIGCONT, signal.SIGURG, signal.SIGWINCH)
 
 
 def as_usual():
@@ -222,7 +224,50 @@ def signals():
     run.wait(60)
     check(Path("end.ppm").read_bytes() == b"old" and Path("end.ppm.0.new").exists(), "a killed run leaves the old file and the new one")
     run = haze("clear", "frame.ppm", "end.ppm")
-    check((run.returncode, run.stderr) == (0, "haze: end.ppm.0.new is left from a run that was killed; it can be removed\n"), run)
+    check((run.returncode, run.stderr) == (0, "haze: end.ppm.0.new: nobody writes it; a run that was killed may have left it\n"), run)
+
+
+def harmless_signals():
+    """Those that do not end a program leave the run alone."""
+    run = waiting("fsync:1", ["clear", "frame.ppm", "calm.ppm"])
+    for number in HARMLESS:
+        run.send_signal(number)
+    time.sleep(0.1)
+    check(run.poll() is None and Path("calm.ppm.0.new").exists(), "a harmless signal ended the run")
+    run.terminate()
+    check(run.wait(60) == -signal.SIGTERM, run.returncode)
+
+
+def secret():
+    """A file that others may not read: the new one is as close, from its first moment on and while it is written."""
+    put("secret.ppm", b"old")
+    os.chmod("secret.ppm", 0o600)
+    for call in ("flock:2", "fchmod:1", "write:1", "fsync:1"):
+        run = waiting(call, ["clear", "frame.ppm", "secret.ppm"])
+        mode = stat.S_IMODE(os.stat("secret.ppm.0.new").st_mode)
+        run.kill()
+        run.wait(60)
+        Path("secret.ppm.0.new").unlink()
+        check(not mode & 0o077, call, oct(mode))
+
+
+def owned():
+    """Root keeps the owner of what it replaces."""
+    if os.geteuid() == 0:
+        put("owned.ppm", b"old")
+        os.chown("owned.ppm", 65534, 65534)
+        done(["clear", "frame.ppm", "owned.ppm"])
+        check((os.stat("owned.ppm").st_uid, os.stat("owned.ppm").st_gid) == (65534, 65534), "the owner has changed")
+
+
+def one_name_refused():
+    """Where the system refuses one of the names, that is said; what came before is whole, and nothing is left."""
+    put("out.ppm", b"old")
+    run = haze("clear", "frame.ppm", "out.ppm", "map=m.pgm", **with_faults(fail=f"renameat:2:{errno.EBUSY}"))
+    check((run.returncode, run.stderr) == (1, "haze: out.ppm: cannot be written: Device or resource busy\n"), run)
+    check(Path("out.ppm").read_bytes() == b"old" and Path("m.pgm").read_bytes() == pgm(SIZE, cleared(SIZE, FRAME)[0]), "a name that was refused")
+    check(not [*Path(".").glob("m.pgm.*"), *Path(".").glob("out.ppm.*")], "a new file is left")
+    Path("m.pgm").unlink()
 
 
 def ignored_signals():
@@ -234,5 +279,5 @@ def ignored_signals():
     check(run.wait(60) == -signal.SIGTERM and not Path("hup.ppm.0.new").exists(), run.returncode)
 
 
-PLAIN = (begin, no_place, folder_of_another, full_disk, long_names, leftovers, side_by_side)
-ALL = PLAIN + ((order, failing, signals, ignored_signals) if FAULTS.exists() and X86 else ())
+PLAIN = (begin, no_place, folder_of_another, full_disk, long_names, owned, leftovers, side_by_side)
+ALL = PLAIN + ((order, failing, one_name_refused, secret, signals, harmless_signals, ignored_signals) if FAULTS.exists() and X86 else ())

@@ -13,7 +13,8 @@ import ppm as second
 import ppmfiles
 from common import X86, check, cleared, done, haze, hazy, ppm, put, refused
 
-MORE = "refused 13: the pixels are short or bytes are left over; the header announces 720000 bytes of them, and more follow"
+MORE = "{0}: refused 13: the pixels are short or bytes are left over; the header announces {1} bytes of them, and more follow; " \
+       "the first of several pictures: pampick 0 <{0} >OUT"
 NONE = "refused 11: the header is bad; it does not begin with P6"
 
 
@@ -30,8 +31,8 @@ def endless():
     os.truncate("large.ppm", 10**10)
     put("map.pgm", b"P5\n600 400\n10000\n")
     os.truncate("map.pgm", 10**10)
-    for words, why in ((["clear", "large.ppm", "x"], "large.ppm: " + MORE), (["clear", "/dev/zero", "x"], "/dev/zero: " + NONE),
-                       (["view", "map.pgm", "x"], "map.pgm: " + MORE.replace("720000", "480000")), (["light", "/dev/zero"], "/dev/zero: " + NONE)):
+    for words, why in ((["clear", "large.ppm", "x"], MORE.format("large.ppm", 720000)), (["clear", "/dev/zero", "x"], "/dev/zero: " + NONE),
+                       (["view", "map.pgm", "x"], MORE.format("map.pgm", 480000)), (["light", "/dev/zero"], "/dev/zero: " + NONE)):
         run = haze(*words, timeout=60, **little)
         check((run.returncode, run.stderr) == (1, f"haze: {why}\n"), words, run)
     Path("large.ppm").unlink()
@@ -102,10 +103,12 @@ def pipes():
         child.stdin.write(data[k:k + 1])
     child.stdin.close()
     check(child.wait() == 0 and Path("out.ppm").read_bytes() == picture, "byte by byte")
-    child = subprocess.Popen([*common.tool, "clear", "-", "fresh"], stdin=subprocess.PIPE, stderr=subprocess.PIPE, bufsize=0)
-    child.stdin.write(data + b"x")
-    check(child.wait(60) == 1 and b"refused 13" in child.stderr.read(), "a pipe that stays open")
-    child.stdin.close()
+    for file, number in ((data + b"x", 13), (b"P6\n#a camera\n2 2\n255\n" + bytes(13), 13), (b"P6\n" + b"#c\n" * 3000 + b"1 1\n255\n" + bytes(4), 13),
+                         (b"P6\n9999 9999\n255\n", 1), (b"P6\n1 1\n65535\n", 12), (b"\x89PNG\r\n\x1a\n", 11), (b"P3\n1 1", 11), (b"X", 11), (b"P6 1x", 11)):
+        child = subprocess.Popen([*common.tool, "clear", "-", "fresh"], stdin=subprocess.PIPE, stderr=subprocess.PIPE, bufsize=0)
+        child.stdin.write(file)
+        check(child.wait(60) == 1 and b"refused %d" % number in child.stderr.read(), "a pipe that stays open, after", file[:40])
+        child.stdin.close()
 
 
 def unreadable():

@@ -1,5 +1,6 @@
 """What the tool refuses, and in which words."""
 
+import os
 import re
 from pathlib import Path
 
@@ -10,6 +11,7 @@ from written import words_of
 
 SIZE = "width or height is not 1 to 1024, or there are more than 262144 pixels"
 LEFT = r"the pixels are short or bytes are left over; the header announces %d bytes of them, and %s"
+MORE = "more follow; the first of several pictures: pampick 0 <%s >OUT"
 
 
 def header(what):
@@ -21,15 +23,15 @@ def looks(what, convert):
 
 
 def as_frame(name):
-    return f"convert {name} -depth 8 ppm:OUT.ppm"
+    return f"convert '{name}[0]' -depth 8 ppm:OUT.ppm"
 
 
 def as_map(name):
-    return f"convert {name} -depth 16 pgm:OUT.pgm, then the word `scaled`"
+    return f"convert '{name}[0]' -depth 16 pgm:OUT.pgm, then `raw` or `scaled`, whichever it holds"
 
 
 FORMATS = (("a PNG file", b"\x89PNG\r\n\x1a\n\0\0\0\rIHDR"), ("a JPEG file", b"\xff\xd8\xff\xe0\0\x10JFIF\0"), ("a GIF file", b"GIF89a\1\0"),
-           ("a BMP file", b"BM\x36\0"), ("a TIFF file", b"II*\0\x08\0\0\0"), ("a TIFF file", b"MM\0*\0\0\0\x08"), ("a WebP file", b"RIFF\x10\0\0\0WEBPVP8 "),
+           ("a BMP file", b"BM\x36\0\0\0\0\0\0\0\x36\0"), ("a TIFF file", b"II*\0\x08\0\0\0"), ("a TIFF file", b"MM\0*\0\0\0\x08"), ("a WebP file", b"RIFF\x10\0\0\0WEBPVP8 "),
            ("a plain PBM file (P1)", b"P1\n1 1\n0\n"), ("a plain PGM file (P2)", b"P2\n1 1\n255\n7\n"), ("a plain PPM file (P3)", b"P3\n1 1\n255\n7 8 9\n"),
            ("a PBM file (P4)", b"P4\n1 1\n\0"), ("a PAM file (P7)", b"P7\nWIDTH 1\n"))
 
@@ -40,7 +42,8 @@ def bad_frames():
     empty, other = header("the file is empty"), header("it does not begin with P6")
     yield from ((layout, data) for data in (b"P6", whole.replace(b"3", b"0000003", 1), b"P6\n3 2\n255", b"P6 # no end", whole.replace(b"3 2", b"3\v2"),
                                             whole.replace(b"255\n", b"255#\n")))
-    yield from ((other, data) for data in (whole.replace(b"P6", b"p6"), b"x", b"P", b"RIF", b"\x89PN", b"\xff\xd8", b"\0" * 5000))
+    yield from ((other, data) for data in (whole.replace(b"P6", b"p6"), b"x", b"P", b"RIF", b"\x89PN", b"\xff\xd8", b"\0" * 5000,
+                                           b"BMW drives", b"RIFF\x10\0\0\0WAVEfmt ", b"RIFF\x10\0\0\0WEB"))
     yield empty, b""
     yield from ((looks(name, as_frame("bad.ppm")), data) for name, data in (*FORMATS, ("a PGM file (P5)", pgm((1, 1), [5]))))
     for size, scale in (((1025, 1), "-xyfit 1024 1024"), ((640, 480), "-pixels 262144"), ((1024, 257), "-pixels 261500"), ((2000, 1500), "-pixels 262144"),
@@ -50,12 +53,12 @@ def bad_frames():
     for size in ((0, 2), (3, 0), (0, 0)):
         yield f"refused 1: {SIZE}; it is {size[0]} by {size[1]}", ppm(size, [], 65535)
     for maximum in (65535, 1, 254, 256):
-        yield f"refused 12: the maximum is not 255; it is {maximum}; to convert it: {as_frame('bad.ppm')}", ppm((3, 2), range(18), maximum)
+        yield re.escape(f"refused 12: the maximum is not 255; it is {maximum}; to convert it: {as_frame('bad.ppm')}"), ppm((3, 2), range(18), maximum)
     for maximum in (0, 65536, 999999):
         yield f"refused 12: the maximum is not 255; it is {maximum}", ppm((3, 2), range(18), maximum)
     for count in (0, 1, 17):
         yield "refused 13: " + LEFT % (18, f"{count} are there"), whole[:len(whole) - 18 + count]
-    yield from (("refused 13: " + LEFT % (18, "more follow"), data) for data in (whole + b"\0", whole + whole, whole.replace(b"255\n", b"255\r\n")))
+    yield from (("refused 13: " + LEFT % (18, MORE % "bad.ppm"), data) for data in (whole + b"\0", whole + whole, whole.replace(b"255\n", b"255\r\n")))
 
 
 def files():
@@ -67,11 +70,11 @@ def files():
             refused(words, "bad.ppm: " + why)
         run = haze("clear", "-", "fresh", text=False, input=data)
         check(run.returncode == 1 and re.fullmatch("haze: standard input: " + re.sub(r"bad\\?\.ppm", "IN", why), run.stderr.decode()[:-1]), why, run)
-    for name in ("a b.ppm", "a'b.ppm", "$x.ppm", "-.ppm"):
+    for name in ("a b.ppm", "a'b.ppm", "$x.ppm", "-.ppm", "@x", "+x", "100%.ppm", "ü.ppm"):
         put(name, b"GIF89a")
         refused(["clear", "--", name, "fresh"], re.escape(name) + ": " + looks("a GIF file", as_frame("IN")))
-    put("a\n\x1b[31mb", b"GIF89a")
-    refused(["clear", "a\n\x1b[31mb", "fresh"], re.escape("a??[31mb: ") + looks("a GIF file", as_frame("IN")))
+    put("a\n\x1b[31mb\x9bc\x7f", b"GIF89a")
+    refused(["clear", "a\n\x1b[31mb\x9bc\x7f", "fresh"], re.escape("a??[31mb??c?: ") + looks("a GIF file", as_frame("IN")))
 
 
 def maps():
@@ -82,11 +85,12 @@ def maps():
            (header("it looks like a PPM file (P6), a frame"), ppm((3, 2), range(18))), *((looks(name, as_map("bad.pgm")), data) for name, data in FORMATS),
            (f"refused 1: {SIZE}; it is 0 by 2", pgm((0, 2), [])),
            (f"refused 1: {SIZE}; it is 513 by 512; to scale it: pamscale -pixels 261500 bad.pgm >OUT", pgm((513, 512), [], 255)),
-           ("refused 13: " + LEFT % (12, "11 are there"), whole[:-1]), ("refused 13: " + LEFT % (12, "more follow"), whole + b"\0"),
-           ("refused 13: " + LEFT % (12, "more follow"), whole + whole),
-           ("refused 8: an entry of the map is above 10000; it is 10001 in column 2 of row 1", pgm((3, 2), [0, 1, 2, 3, 4, 10001])),
-           ("refused 8: an entry of the map is above 10000; it is 65535 in column 0 of row 0", pgm((3, 2), [65535, 1, 2, 3, 4, 5]))]
-    bad += [(maximum.format(most), pgm((3, 2), range(6), most)) for most in (65535, 918, 255, 0, 9999, 999999)]
+           ("refused 13: " + LEFT % (12, "11 are there"), whole[:-1]), ("refused 13: " + LEFT % (12, MORE % "bad.pgm"), whole + b"\0"),
+           ("refused 13: " + LEFT % (12, MORE % "bad.pgm"), whole + whole),
+           ("refused 8: an entry of the map is above 10000; it is taken as 10001 in column 2 of row 1", pgm((3, 2), [0, 1, 2, 3, 4, 10001])),
+           ("refused 8: an entry of the map is above 10000; it is taken as 65535 in column 0 of row 0", pgm((3, 2), [65535, 1, 2, 3, 4, 5])),
+           ("refused 12: the maximum of a map is not 10000; it is 918, so these are depths", pgm((3, 2), range(6), 918))]
+    bad += [(maximum.format(most), pgm((3, 2), range(6), most)) for most in (65535, 255, 0, 9999, 999999)]
     for why, data in bad:
         put("bad.pgm", data)
         refused(["add", "frame.ppm", "bad.pgm", "fresh"], "bad.pgm: " + why)
@@ -105,23 +109,22 @@ def maps_of_others():
     for most in (0, 65536, 999999):
         put("bad.pgm", pgm((3, 2), range(6), most)[:14] + bytes(12))
         for word in ("raw", "scaled"):
-            refused(["add", "frame.ppm", "bad.pgm", "fresh", word], "bad.pgm: refused 12: .*; it is %d; .*" % most)
-    above = "bad.pgm: refused 8: an entry of the map is above 10000; it is %d in column 1 of row 1"
-    for most, sample, word, entry in ((65535, 10001, "raw", 10001), (16383, 16384, "scaled", 10001), (255, 255, "raw", None), (100, 101, "scaled", 10100),
-                                      (7, 255, "scaled", 65535)):
+            for words in (["add", "frame.ppm", "bad.pgm", "fresh", word], ["view", "bad.pgm", "fresh", word], ["view", "bad.pgm", "fresh", word, "depth"]):
+                refused(words, "bad.pgm: refused 12: the maximum of a PGM file is 1 to 65535; it is %d" % most)
+    above = "bad.pgm: refused 8: an entry of the map is above 10000; it is taken as %d in column 1 of row 1"
+    for most, sample, word, entry in ((65535, 10001, "raw", 10001), (16383, 16384, "scaled", 65535), (60000, 60001, "scaled", 65535), (7, 8, "scaled", 65535)):
         put("bad.pgm", pgm((3, 2), [0, 0, 0, 0, sample, 0], most))
-        if entry:
-            refused(["add", "frame.ppm", "bad.pgm", "fresh", word], above % entry)
-            refused(["view", "bad.pgm", "fresh", word], above % entry)
-    neither = r"bad.pgm: refused 12: the maximum of a map is not 10000, nor that of depths, 918; it is %d; .*"
+        refused(["add", "frame.ppm", "bad.pgm", "fresh", word], above % entry)
+        refused(["view", "bad.pgm", "fresh", word], above % entry)
+    neither = "bad.pgm: refused 12: the maximum is neither that of a map, 10000, nor that of depths, 918; it is %d; `raw` .* `scaled` .* with the word `depth`"
     for most in (0, 255, 919, 65535):
         put("bad.pgm", pgm((3, 2), range(6), most))
         refused(["view", "bad.pgm", "fresh"], neither % most)
     put("bad.pgm", pgm((3, 2), range(6), 10000))
     refused(["view", "bad.pgm", "fresh", "depth"], "bad.pgm: refused 12: the maximum of depths is not 918; it is 10000; .* as 918")
-    for most, words in ((918, []), (65535, ["raw", "depth"])):
-        put("bad.pgm", pgm((3, 2), [0, 0, 919, 0, 0, 0], most))
-        refused(["view", "bad.pgm", "fresh", *words], "bad.pgm: a depth is above 918; it is 919 in column 2 of row 0")
+    for most, sample, words, entry in ((918, 919, [], 919), (65535, 919, ["raw", "depth"], 919), (16383, 16384, ["scaled", "depth"], 65535)):
+        put("bad.pgm", pgm((3, 2), [0, 0, sample, 0, 0, 0], most))
+        refused(["view", "bad.pgm", "fresh", *words], f"bad.pgm: a depth is above 918; it is taken as {entry} in column 2 of row 0")
     put("bad.pgm", pgm((3, 2), [918, 0, 0, 0, 0, 0], 918))
     check(haze("view", "bad.pgm", "good.ppm").returncode == 0 and Path("good.ppm").exists(), "depths up to 918 are shown")
     Path("good.ppm").unlink()
@@ -142,12 +145,13 @@ def settings():
         for command in ("clear", "depth"):
             refused([command, "frame.ppm", "fresh", "light=" + light], f"light={light}: refused 5: a channel of the light is 0")
     for t in (10001, 65536, 2**64 - 1):
-        refused(["add", "frame.ppm", "fresh", f"t={t}"], f"t={t}: refused 8: an entry of the map is above 10000")
+        refused(["add", "frame.ppm", "fresh", f"t={t}"], f"t={t}: refused 8: a transmission is 0 to 10000")
     for start, end in ((0, 0), (1, 1), (1, 0), (0, 3), (2, 3), (2**64 - 1, 1), (0, 2**64 - 1)):
         refused(["band", "frame.ppm", str(start), str(end)],
-                f"frame.ppm: refused 6: the rectangle or the band is empty or reaches outside the frame; rows {start} to {end}, the last left out, of 2")
+                f"rows {start} to {end}: refused 6: the band is empty or reaches outside the frame; frame.ppm has rows 0 to 1, and TO is left out")
 
 
+NO_SETTING = re.escape("this is no setting here (a file of that name is written with ./ before it): ")
 PLACES = {"clear": ["IN.ppm", "OUT.ppm"], "map": ["IN.ppm", "MAP.pgm"], "depth": ["IN.ppm", "DEPTH.pgm"], "light": ["IN.ppm"], "band": ["IN.ppm", "FROM", "TO"],
           "add": ["CLEAN.ppm", "MAP.pgm", "OUT.ppm"], "view": ["MAP-OR-DEPTH.pgm", "OUT.ppm"]}
 GOOD = {"clear": ["frame.ppm", "fresh"], "map": ["frame.ppm", "fresh"], "depth": ["frame.ppm", "fresh"], "light": ["frame.ppm"],
@@ -164,27 +168,32 @@ def words():
         for count, place in enumerate(places):
             refused([command, *good[:count]], "a word is missing: " + re.escape(place))
             for word in ("s=5", "light=1,2,3", "map=x", "Q9=", "date=2.ppm"):
-                refused([command, *good[:count], word, *good[count + 1:]],
-                        re.escape(f"{word} stands where {place} is wanted; settings come behind the files, and a file of that name is written ./{word}"))
+                why = f" is wanted; settings come behind the files, and a file of that name is written ./{word}" if "." in place else \
+                    ", a number, is wanted; settings come behind it"
+                refused([command, *good[:count], word, *good[count + 1:]], re.escape(f"{word} stands where {place}{why}"))
         for word in ("more.ppm", "", "7", "-"):
             refused([command, *good, word], f"this is a word more than it takes: {word}")
         for word in ("q=1", "S=7", "t1=1000", "omeg=1"):
-            refused([command, *good, word], f"this is no setting here: {word}")
+            refused([command, *good, word], NO_SETTING + word)
         for word in ("-s", "-x", "--verbose", "-vv", "-s=7"):
-            refused([command, *good, word], re.escape("this is no option here (behind -- it is the name of a file): ") + word)
-            refused([command, word, *good], re.escape("this is no option here (behind -- it is the name of a file): ") + word)
+            refused([command, *good, word], re.escape("this is no option here (behind -- it is a word as any other): ") + word)
+            refused([command, word, *good], re.escape("this is no option here (behind -- it is a word as any other): ") + word)
     for command in ("add", "view"):
         for word in words_of(rules.DEFAULTS) + ["map=m", "depth=d"]:
-            refused([command, *GOOD[command], word], f"this is no setting here: {word}")
-    for word in ("s=", "s=-1", "s=+7", "s=7x", "s= 7", "s=0x7", f"s={2**64}", f"s={10**20 - 1}", "s=" + "7".zfill(21),
-                 "light=", "light=1,2", "light=1,2,3,4", "light=1,2,3,", "light=,2,3", "light=1;2;3", "light=256,1,1", "light=1,1,999"):
-        refused(["clear", "frame.ppm", "fresh", word], "this is no number, or too large: " + re.escape(word))
-    refused(["add", "frame.ppm", "fresh", "t="], "this is no number, or too large: t=")
+            refused([command, *GOOD[command], word], NO_SETTING + word)
+    for word in ("s=", "s=-1", "s=+7", "s=7x", "s= 7", "s=0x7", f"s={2**64}", f"s={10**20 - 1}", "s=" + "7".zfill(21)):
+        refused(["clear", "frame.ppm", "fresh", word], re.escape(word) + ": s takes a whole number, 0 to 30")
+    for name, (least, most) in zip(NAMES, rules.SETTINGS):
+        refused(["map", "frame.ppm", "fresh", name + "=0.5"], f"{name}=0.5: {name} takes a whole number, {least} to {most}")
+    for word in ("light=", "light=1,2", "light=1,2,3,4", "light=1,2,3,", "light=,2,3", "light=1;2;3", "light=256,1,1", "light=1,1,999"):
+        refused(["clear", "frame.ppm", "fresh", word], re.escape(word) + ": light takes three whole numbers, 1 to 255, parted by commas")
+    for word in ("t=", "t=0.7", f"t={2**64}"):
+        refused(["add", "frame.ppm", "fresh", word], re.escape(word) + ": t takes a whole number, 0 to 10000")
     for word in ("s=7", "light=1,2,3", "map=m", "depth=d"):
         refused(["clear", "frame.ppm", "fresh", word, "r=2", word], f"this setting stands twice: {word}")
     for word in ("map=", "depth="):
-        refused(["clear", "frame.ppm", "fresh", word], "a file's name is missing: " + word)
-    refused(["light", "frame.ppm", "light=1,2,3"], "this is no setting here: light=1,2,3")
+        refused(["clear", "frame.ppm", "fresh", word], f"{word}: {word[:-1]} takes the name of a file")
+    refused(["light", "frame.ppm", "light=1,2,3"], NO_SETTING + "light=1,2,3")
     refused(["clear", "one.ppm", "frame.ppm", "fresh"], "this is a word more than it takes: fresh")
     for words in (["frame.ppm", "x", "1"], ["frame.ppm", "0", "-"], ["frame.ppm", "1x", "2"], ["frame.ppm", str(2**64), "2"]):
         refused(["band", *words], "this is no number of a row: .*")
@@ -197,11 +206,27 @@ def words_together():
         refused([command, *GOOD[command], "raw", "scaled"], why)
     for word in ("raw", "scaled"):
         refused(["add", "frame.ppm", "fresh", "t=5000", word], "with t= there is no map that could be " + word)
-    refused(["add", "frame.ppm", "map.pgm", "fresh", "t=5000"], "this is a word more than it takes: fresh")
+    refused(["add", "frame.ppm", "map.pgm", "fresh", "t=5000"], "with t= there is no map: map.pgm")
+    refused(["add", "frame.ppm", "t=5000"], "t=5000 stands where OUT.ppm is wanted; .*")
+    refused(["add", "t=5000"], "t=5000 stands where CLEAN.ppm is wanted; .*")
     refused(["add", "-", "-", "fresh"], "standard input can be read once, not twice")
     refused(["clear", "frame.ppm", "fresh", "map=fresh"], "fresh: cannot be written: two files of this run would go there")
     refused(["clear", "frame.ppm", "fresh", "map=one", "depth=./one"], "./one: cannot be written: two files of this run would go there")
     refused(["clear", "frame.ppm", "-", "map=-"], "standard output: cannot be written: two files of this run would go there")
+
+
+def lost():
+    """Something else in the place of what is read."""
+    put("map.pgm", pgm((3, 2), range(6)))
+    os.link("frame.ppm", "hard.ppm")
+    Path("soft.pgm").symlink_to("map.pgm")
+    for words in (["map", "frame.ppm", "frame.ppm"], ["depth", "frame.ppm", "hard.ppm"], ["clear", "frame.ppm", "fresh", "map=./frame.ppm"],
+                  ["clear", "frame.ppm", "fresh", "depth=hard.ppm"], ["view", "map.pgm", "map.pgm"], ["view", "soft.pgm", "map.pgm"],
+                  ["add", "frame.ppm", "map.pgm", "map.pgm"]):
+        name = words[2] if words[0] == "add" else words[1]
+        refused(words, name + ": would be lost, since it is read and something else is written to it")
+    Path("hard.ppm").unlink()
+    Path("soft.pgm").unlink()
 
 
 def several():
@@ -210,18 +235,21 @@ def several():
     put("a/frame.ppm", Path("frame.ppm").read_bytes())
     refused(["clear", "-o"], "the name of a folder is missing behind -o")
     refused(["clear", "frame.ppm", "-o", "to", "-o", "to"], "this option stands twice: -o")
-    refused(["map", "frame.ppm", "fresh", "-o", "to"], ".*this is no option here.*: -o")
+    refused(["map", "frame.ppm", "fresh", "-o", "to"], "this is no option here .*: -o")
     refused(["clear", "-o", "to"], "a word is missing: IN.ppm")
     refused(["clear", "-o", "to", "s=5", "frame.ppm"], "s=5 stands where IN.ppm is wanted.*")
-    refused(["clear", "-o", "to", "frame.ppm", "T0=3000"], "this is no setting here: T0=3000")
+    refused(["clear", "-o", "to", "frame.ppm", "T0=3000"], NO_SETTING + "T0=3000")
     refused(["clear", "-o", "to", "frame.ppm", "s=5", "a/frame.ppm"], "this is a word more than it takes: a/frame.ppm")
     refused(["clear", "-o", "to", "frame.ppm", "map=m.pgm"], "with -o there is no map=")
     refused(["clear", "-o", "to", "frame.ppm", "a/frame.ppm"], "a/frame.ppm: another frame of this run has the same name; in to there can be one")
     refused(["clear", "-o", ".", "frame.ppm"], "frame.ppm: stands in . and would be replaced itself; name another folder")
     refused(["clear", "-o", "a/../a", "a/frame.ppm"], "a/frame.ppm: stands in a/../a and would be replaced itself; name another folder")
+    os.mkdir("linked")
+    os.symlink("../a/frame.ppm", "linked/last.ppm")      # a frame that would be replaced under the name of another
+    refused(["clear", "-o", "a", "frame.ppm", "linked/last.ppm"], "linked/last.ppm: stands in a and would be replaced itself; name another folder")
     refused(["clear", "-o", "to", "-"], "with -o every frame is a file; standard input has no name to go by")
-    for folder in ("none", "frame.ppm"):
-        refused(["clear", "-o", folder, "a/frame.ppm"], f"{folder}: is not a folder; make it first: mkdir {folder}")
+    refused(["clear", "-o", "none", "a/frame.ppm"], "none: is no folder to write to: No such file or directory")
+    refused(["clear", "-o", "frame.ppm", "a/frame.ppm"], "frame.ppm: is no folder to write to")
     refused(["clear", "-o", "to", "frame.ppm", "s=31"], "s=31: refused 2: .*")
     refused(["clear", "-o", "to", "frame.ppm", "light=0,1,1"], "light=0,1,1: refused 5: .*")
 
@@ -230,4 +258,4 @@ def frame():
     put("frame.ppm", ppm((3, 2), range(100, 118)))
 
 
-ALL = (frame, files, maps, maps_of_others, settings, words, words_together, several)
+ALL = (frame, files, maps, maps_of_others, settings, words, words_together, lost, several)

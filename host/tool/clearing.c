@@ -21,13 +21,18 @@ static double step(clearing *c)
     return c->last - before;
 }
 
-/* A number of the library about what the words gave. The frame and all that is lent are as they have to be, so there is no other. */
-static int refuse_words(const words *w, uint8_t number)
+int refuse_light(const words *w)
 {
     char what[sizeof "light=255,255,255"];
     snprintf(what, sizeof what, "light=%d,%d,%d", w->light.red, w->light.green, w->light.blue);
+    return refuse(what, HAZE_BAD_LIGHT, "%s", "");
+}
+
+/* A number of the library about what the words gave. The frame and all that is lent are as they have to be, so there is no other than these two. */
+static int refuse_words(const words *w, uint8_t number)
+{
     if (number == HAZE_BAD_SETTING) refuse_settings(w);
-    else refuse(what, number, "%s", "");
+    else refuse_light(w);
     return WRONG_WORDS;
 }
 

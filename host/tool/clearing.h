@@ -24,6 +24,9 @@ int clear_frame(clearing *c, const words *w);
 
 void free_clearing(clearing *c);
 
+/* That the light of the words is refused. */
+int refuse_light(const words *w);
+
 /* With -v: the light, and how long each step took; the last one is called by its name. */
 void tell_times(clearing *c, const words *w, const char *step);
 #endif

@@ -41,10 +41,19 @@ static int write_cleared(const clearing *c, const char *picture, const char *thr
     return write_outputs(outputs, count);
 }
 
+/* An output of another kind than the input would take its place for ever. */
+static int lost(const char *in, const char *out)
+{
+    if (!out || !is_same_file(in, out)) return DONE;
+    return say("%s: would be lost, since it is read and something else is written to it", in);
+}
+
 static int clear_one(const words *w, const char *in, const char *picture, const char *through, const char *depth)
 {
     clearing c;
-    int how = begin_clearing(&c, in, w);
+    int how;
+    if (lost(in, through) || lost(in, depth)) return FAILED;
+    how = begin_clearing(&c, in, w);
     if (!how) how = clear_frame(&c, w);
     if (!how) how = write_cleared(&c, picture, through, depth);
     if (!how) tell_times(&c, w, "write");
@@ -94,7 +103,9 @@ static int print_band(const clearing *c, uint64_t from, uint64_t to)
 {
     double mean, least;
     uint8_t number = haze_band(c->through.w, c->through.h, c->through.entries, c->through.count, from, to, &mean, &least);
-    if (number) return refuse(input_name(c->path), number, "; rows %lu to %lu, the last left out, of %d", (unsigned long)from, (unsigned long)to, (int)c->in.h);
+    if (number)
+        return say("rows %lu to %lu: refused %d: the band is empty or reaches outside the frame; %s has rows 0 to %d, and TO is left out", (unsigned long)from,
+                   (unsigned long)to, number, input_name(c->path), (int)c->in.h - 1);
     print_double("mean", mean);
     print_double("least", least);
     return printed();
@@ -138,17 +149,15 @@ static size_t first_above(const map *m, uint64_t top)
 static int refuse_entry(const char *path, const map *m)
 {
     size_t i = first_above(m, ALL_THROUGH);
-    return refuse(input_name(path), HAZE_BAD_ENTRY, "; it is %d in column %d of row %d", m->entries[i], (int)(i % m->w), (int)(i / m->w));
+    return refuse(input_name(path), HAZE_BAD_ENTRY, "; it is taken as %d in column %d of row %d", m->entries[i], (int)(i % m->w), (int)(i / m->w));
 }
 
 /* What the library refuses: 5 and 8; the lengths are as they have to be. */
 static int refuse_add(const words *w, uint8_t number, const map *m)
 {
-    char what[sizeof "light=255,255,255 or t=18446744073709551615"];
-    if (number == HAZE_BAD_ENTRY && !w->given[T]) return refuse_entry(w->files[1], m);
-    if (number == HAZE_BAD_ENTRY) snprintf(what, sizeof what, "t=%lu", (unsigned long)w->t);
-    else snprintf(what, sizeof what, "light=%d,%d,%d", w->light.red, w->light.green, w->light.blue);
-    return refuse(what, number, "%s", "");
+    if (number == HAZE_BAD_LIGHT) return refuse_light(w);
+    if (w->given[T]) return say("t=%lu: refused %d: a transmission is 0 to 10000", (unsigned long)w->t, number);
+    return refuse_entry(w->files[1], m);
 }
 
 static int add_haze(const words *w, const clearing *c, const map *m)
@@ -193,7 +202,7 @@ static int add(const words *w)
     clearing c;
     map m = {0, 0, NULL, 0};
     int how;
-    if (wrong_map_words(w)) return FAILED;
+    if (wrong_map_words(w) || (!w->given[T] && lost(w->files[1], w->files[2]))) return FAILED;
     how = begin_clearing(&c, w->files[0], w);
     if (!how) how = map_for(w, &c.in, &m);
     if (!how) how = add_haze(w, &c, &m);
@@ -219,7 +228,7 @@ static int wrong_numbers(const char *path, const map *m, uint64_t top)
     size_t i = first_above(m, top);
     if (top == ALL_THROUGH) return map_number(m) ? refuse_entry(path, m) : DONE;
     if (i == m->count) return DONE;
-    return say("%s: a depth is above %d; it is %d in column %d of row %d", input_name(path), (int)top, m->entries[i], (int)(i % m->w), (int)(i / m->w));
+    return say("%s: a depth is above %d; it is taken as %d in column %d of row %d", input_name(path), (int)top, m->entries[i], (int)(i % m->w), (int)(i / m->w));
 }
 
 /* The legend stands under the map, so the picture may have more pixels than the library takes. */
@@ -244,7 +253,7 @@ static int view(const words *w)
     map m;
     int how;
     if (w->given[IS_RAW] && w->given[IS_SCALED]) return wrong_use("view", "the numbers are either raw or ", "scaled");
-    if (read_numbers(w->files[0], taken(w), &top, &m)) return FAILED;
+    if (lost(w->files[0], w->files[1]) || read_numbers(w->files[0], taken(w), &top, &m)) return FAILED;
     how = wrong_numbers(w->files[0], &m, top);
     if (!how) {
         output out = new_output(w->files[1], view_file(&m, top));

@@ -86,11 +86,10 @@ static int judge_numbers(netpbm *n, taking how, uint64_t *top, uint8_t *number)
     return 0;
 }
 
-/* To the nearest, halves up. A sample may be above its maximum, and what comes of it then is more than the top. */
+/* To the nearest, halves up. What is above its maximum is no sample, and becomes what no map and no depth takes. */
 static uint16_t scaled(uint64_t sample, uint64_t maximum, uint64_t top)
 {
-    uint64_t number = (2 * sample * top + maximum) / (2 * maximum);
-    return number < UINT16_MAX ? (uint16_t)number : UINT16_MAX;
+    return (uint16_t)(sample <= maximum ? (2 * sample * top + maximum) / (2 * maximum) : UINT16_MAX);
 }
 
 static void take_samples(const netpbm *n, taking how, uint64_t top, map *m)
@@ -108,7 +107,7 @@ static int take_numbers(netpbm *n, taking how, uint64_t *top, map *m)
     uint8_t number;
     uint64_t wanted = *top;
     if (judge_numbers(n, how, top, &number)) return 1;
-    if (number) return refuse_numbers(n, number, wanted, samples_length(n));
+    if (number) return refuse_numbers(n, number, how, wanted, samples_length(n));
     *m = new_map(n->w, n->h);
     take_samples(n, how, *top, m);
     return 0;

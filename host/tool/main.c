@@ -34,7 +34,7 @@ int main(int count, char **given)
     if (count < 2) return wrong_use(NULL, "a command is wanted", "");
     if (is_help(given[1]) && count > 3) return wrong_use(NULL, "help takes one topic, not also ", given[3]);
     if (is_help(given[1])) return print_page(given[2]);
-    if (!strcmp(given[1], "--version") && count == 2) return version();
+    if (!strcmp(given[1], "--version")) return count == 2 ? version() : wrong_use(NULL, "--version takes no more words: ", given[2]);
     c = command_of(given[1]);
     if (!c) return wrong_use(NULL, "this is no command: ", given[1]);
     return take_words(c, given + 2, count - 2, &w) || c->run(&w) != 0;

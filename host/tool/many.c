@@ -1,4 +1,5 @@
 #include "many.h"
+#include <errno.h>
 #include <stdio.h>
 #include <stdlib.h>
 #include <string.h>
@@ -30,31 +31,52 @@ static int same_name_before(const words *w, int k)
     return j < k;
 }
 
-static int is_itself(const char *in, const char *out)
+/* Which files stand in the folder under the names of the frames; one that is not there has the number 0. */
+static void find_old(const words *w, struct stat *old)
 {
-    struct stat a, b;
-    return !stat(in, &a) && !stat(out, &b) && a.st_dev == b.st_dev && a.st_ino == b.st_ino;
+    int k;
+    for (k = 0; k < w->count; k++) {
+        char *out = path_in(w->folder, name_of(w->files[k]));
+        if (stat(out, old + k)) old[k].st_ino = 0;
+        free(out);
+    }
 }
 
-static int wrong_file(const words *w, int k)
+/* Whether the frame is one of the files that would be replaced, by whatever name. */
+static int is_replaced(const words *w, const char *in, const struct stat *old)
+{
+    struct stat found;
+    int k = 0;
+    if (stat(in, &found)) return 0;
+    while (k < w->count && (old[k].st_ino != found.st_ino || old[k].st_dev != found.st_dev)) k++;
+    return k < w->count;
+}
+
+static int wrong_file(const words *w, int k, const struct stat *old)
 {
     const char *in = w->files[k];
-    char *out = path_in(w->folder, name_of(in));
-    int itself = is_itself(in, out);
-    free(out);
     if (is_standard(in)) return say("with -o every frame is a file; standard input has no name to go by");
     if (same_name_before(w, k)) return say("%s: another frame of this run has the same name; in %s there can be one", in, w->folder);
-    return itself ? say("%s: stands in %s and would be replaced itself; name another folder", in, w->folder) : 0;
+    return is_replaced(w, in, old) ? say("%s: stands in %s and would be replaced itself; name another folder", in, w->folder) : 0;
+}
+
+static int wrong_folder(const char *folder)
+{
+    struct stat found;
+    if (stat(folder, &found)) return say("%s: is no folder to write to: %s", folder, strerror(errno));
+    return S_ISDIR(found.st_mode) ? 0 : say("%s: is no folder to write to", folder);
 }
 
 static int wrong_files(const words *w)
 {
-    struct stat found;
-    int k;
-    if (stat(w->folder, &found) || !S_ISDIR(found.st_mode)) return say("%s: is not a folder; make it first: mkdir %s", w->folder, w->folder);
-    for (k = 0; k < w->count; k++)
-        if (wrong_file(w, k)) return 1;
-    return 0;
+    struct stat *old;
+    int k, wrong = 0;
+    if (wrong_folder(w->folder)) return 1;
+    old = memory((size_t)w->count * sizeof *old);
+    find_old(w, old);
+    for (k = 0; k < w->count && !wrong; k++) wrong = wrong_file(w, k, old);
+    free(old);
+    return wrong;
 }
 
 /* ---- the run */

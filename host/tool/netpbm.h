@@ -1,5 +1,6 @@
-/* A binary Netpbm file, read no farther than it takes to judge it: up to the header's end, then the samples that the header announces and one byte more.
- * It may be of any kind: a plain file, a pipe, a device that never ends. What goes wrong is said. */
+/* A binary Netpbm file, read no farther than it takes to judge it: up to the header's end, then the samples that the header announces and one byte more. The
+ * header is read in parts, so up to as many bytes behind it as it has itself may be read too. The file may be of any kind: a plain file, a pipe, a device that
+ * never ends. What goes wrong is said. */
 #ifndef NETPBM_H
 #define NETPBM_H
 #include <stddef.h>

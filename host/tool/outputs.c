@@ -17,9 +17,17 @@ output new_output(const char *path, content file) { return (output){.path = path
 
 /* ---- signals */
 
-static const int ending[] = {SIGHUP, SIGINT, SIGQUIT, SIGPIPE, SIGALRM, SIGTERM, SIGXCPU, SIGXFSZ};
+/* Those that do not end a program. One that cannot be caught is among them. */
+static const int harmless[] = {SIGKILL, SIGSTOP, SIGTSTP, SIGTTIN, SIGTTOU, SIGCHLD, SIGCONT, SIGURG, SIGWINCH};
 
-#define ENDING (int)(sizeof ending / sizeof *ending)
+#define HARMLESS (int)(sizeof harmless / sizeof *harmless)
+
+static int is_harmless(int number)
+{
+    int k = 0;
+    while (k < HARMLESS && harmless[k] != number) k++;
+    return k < HARMLESS;
+}
 
 /* What a signal has to remove. */
 static output *volatile underway = NULL;
@@ -41,23 +49,21 @@ static void on_signal(int number)
     raise(number);
 }
 
-/* A signal that is ignored, as nohup has it, stays ignored. */
+/* A signal that is ignored, as nohup has it, stays ignored, and one that something else has caught stays caught. */
 static void catch_signals(void)
 {
     struct sigaction ours = {.sa_handler = on_signal}, old;
-    int k;
-    for (k = 0; k < ENDING; k++)
-        if (!sigaction(ending[k], NULL, &old) && old.sa_handler != SIG_IGN) sigaction(ending[k], &ours, NULL);
+    int number;
+    for (number = 1; number <= SIGRTMAX; number++)
+        if (!is_harmless(number) && !sigaction(number, NULL, &old) && old.sa_handler == SIG_DFL) sigaction(number, &ours, NULL);
 }
 
 /* Between a file's change of name and the note of it no signal is let in. */
 static sigset_t hold_signals(void)
 {
-    sigset_t held, old;
-    int k;
-    sigemptyset(&held);
-    for (k = 0; k < ENDING; k++) sigaddset(&held, ending[k]);
-    sigprocmask(SIG_BLOCK, &held, &old);
+    sigset_t all, old;
+    sigfillset(&all);
+    sigprocmask(SIG_BLOCK, &all, &old);
     return old;
 }
 
@@ -83,9 +89,19 @@ static int find_place(output *o)
 {
     if (is_standard(o->path)) return 0;
     if (open_folder(o)) return 1;
-    if (fstatat(o->folder, o->name, &o->old, AT_SYMLINK_NOFOLLOW)) o->old.st_mode = 0;
-    if (o->old.st_mode && !S_ISREG(o->old.st_mode)) return unwritable(o, "it is there and is not a plain file");
-    return *o->name ? 0 : unwritable(o, strerror(EISDIR));
+    if (!*o->name) return unwritable(o, strerror(EISDIR));
+    if (fstatat(o->folder, o->name, &o->old, AT_SYMLINK_NOFOLLOW)) {
+        o->old.st_mode = 0;
+        return errno == ENOENT ? 0 : unwritable(o, strerror(errno));
+    }
+    return S_ISREG(o->old.st_mode) ? 0 : unwritable(o, "it is there and is not a plain file");
+}
+
+int is_same_file(const char *a, const char *b)
+{
+    struct stat found_a, found_b;
+    if (is_standard(a) || is_standard(b) || stat(a, &found_a) || stat(b, &found_b)) return 0;
+    return found_a.st_dev == found_b.st_dev && found_a.st_ino == found_b.st_ino;
 }
 
 static int same_place(const output *a, const output *b)
@@ -114,10 +130,10 @@ static int find_places(output *outputs, int count)
 
 static int kept_of(const char *name)
 {
-    int n = 0;
-    while (name[n] && n < KEPT_OF_NAME) n++;
+    size_t n = strlen(name);
+    if (n > KEPT_OF_NAME) n = KEPT_OF_NAME;
     while (n && ((unsigned char)name[n] & 0xC0) == 0x80) n--; /* a letter of UTF-8 is not cut */
-    return n;
+    return (int)n;
 }
 
 /* A new file is held by its run from the moment on that it is there. Between two runs that is so because each holds the folder meanwhile; one that cannot have
@@ -130,12 +146,14 @@ static int hold_folder(const output *o)
     return tries > 0;
 }
 
-/* So a file that nobody holds was left by a run that was killed. */
+/* So a plain file that nobody holds was left by a run that was killed. */
 static void name_leftover(const output *o)
 {
+    struct stat found;
     int file = openat(o->folder, o->new_name, O_RDONLY | O_NONBLOCK | O_NOFOLLOW | O_CLOEXEC);
     if (file < 0) return;
-    if (!flock(file, LOCK_EX | LOCK_NB)) say("%.*s%s is left from a run that was killed; it can be removed", (int)(o->name - o->path), o->path, o->new_name);
+    if (!fstat(file, &found) && S_ISREG(found.st_mode) && !flock(file, LOCK_EX | LOCK_NB))
+        say("%.*s%s: nobody writes it; a run that was killed may have left it", (int)(o->name - o->path), o->path, o->new_name);
     close(file);
 }
 
@@ -146,7 +164,7 @@ static int create(output *o)
     unsigned k;
     for (k = 0; o->unfinished < 0 && why == EEXIST; k++) {
         snprintf(o->new_name, sizeof o->new_name, "%.*s.%u.new", kept_of(o->name), o->name, k);
-        o->unfinished = openat(o->folder, o->new_name, O_WRONLY | O_CREAT | O_EXCL | O_CLOEXEC, 0666);
+        o->unfinished = openat(o->folder, o->new_name, O_WRONLY | O_CREAT | O_EXCL | O_CLOEXEC, o->old.st_mode ? 0600 : 0666);
         why = errno;
         if (o->unfinished < 0 && why == EEXIST && held) name_leftover(o);
     }
@@ -167,7 +185,15 @@ static int write_all(const output *o, int file)
     return put < 0 ? unwritable(o, strerror(errno)) : 0;
 }
 
-/* The whole new file, on the disk. A file system without modes is no reason to fail. */
+/* The new file gets the old one's owner and mode, as far as that can be had: who may not read the old one never may the new one. */
+static void take_after(const output *o)
+{
+    if (!o->old.st_mode) return;
+    if (fchown(o->unfinished, o->old.st_uid, o->old.st_gid)) errno = 0; /* for root alone */
+    if (fchmod(o->unfinished, o->old.st_mode & 07777)) errno = 0;       /* not every file system has modes */
+}
+
+/* The whole new file, on the disk. */
 static int make(output *o)
 {
     sigset_t old;
@@ -176,24 +202,19 @@ static int make(output *o)
     old = hold_signals();
     failed = create(o);
     let_signals(old);
-    if (failed || write_all(o, o->unfinished)) return 1;
-    if (o->old.st_mode) fchmod(o->unfinished, o->old.st_mode & 07777);
+    if (failed) return 1;
+    take_after(o);
+    if (write_all(o, o->unfinished)) return 1;
     return fsync(o->unfinished) ? unwritable(o, strerror(errno)) : 0;
 }
 
 static int take_name(output *o)
 {
-    sigset_t old;
-    int failed;
     if (o->unfinished < 0) return 0;
-    old = hold_signals();
-    failed = renameat(o->folder, o->new_name, o->folder, o->name);
-    if (!failed) {
-        close(o->unfinished);
-        o->unfinished = -1;
-    }
-    let_signals(old);
-    return failed ? unwritable(o, strerror(errno)) : 0;
+    if (renameat(o->folder, o->new_name, o->folder, o->name)) return unwritable(o, strerror(errno));
+    close(o->unfinished);
+    o->unfinished = -1;
+    return 0;
 }
 
 /* The new name goes to the disk too, where the system can do that for a folder. */
@@ -223,16 +244,25 @@ static int let_go(output *o)
     return 0;
 }
 
+/* The files take their names, and what is unfinished then goes. No signal comes between two names. */
+static int take_names(output *outputs, int count, int failed)
+{
+    sigset_t old = hold_signals();
+    if (!failed) failed = each(take_name, outputs, count);
+    remove_unfinished();
+    underway_count = 0;
+    let_signals(old);
+    return failed;
+}
+
 int write_outputs(output *outputs, int count)
 {
     int failed;
     catch_signals();
     underway = outputs;
     underway_count = count;
-    failed = find_places(outputs, count) || each(make, outputs, count) || each(put_out, outputs, count) || each(take_name, outputs, count) ||
-             each(settle, outputs, count);
-    remove_unfinished();
-    underway_count = 0;
+    failed = find_places(outputs, count) || each(make, outputs, count) || each(put_out, outputs, count);
+    failed = take_names(outputs, count, failed) || each(settle, outputs, count);
     each(let_go, outputs, count);
     return failed;
 }

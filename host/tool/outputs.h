@@ -21,7 +21,11 @@ typedef struct {
 
 output new_output(const char *path, content file);
 
-/* All of them or, when one cannot be written, none; that is said, and the answer is 1. An old file is replaced, and its mode is kept. A name that stands for
+/* Each of them whole or not at all, and none before all are on the disk; what goes wrong is said, and the answer is 1. They take their names one after the
+ * other, so where the system refuses one of the names the files before it are new. An old file is replaced, and its mode is kept. A name that stands for
  * anything but a plain file is left alone: to replace a device or a link by a file would harm what others see under that name. The contents are freed. */
 int write_outputs(output *outputs, int count);
+
+/* Whether both names stand for one file that is there. */
+int is_same_file(const char *a, const char *b);
 #endif

@@ -20,32 +20,41 @@ int refuse(const char *what, uint8_t number, const char *format, ...)
 
 /* ---- names in commands */
 
-/* The name as it can be typed in a command, or a word for it where a shell would take it apart. */
+/* The name as it can be typed in a command, or a word for it where a shell or another program would take it apart. */
 static const char *typed(const netpbm *n)
 {
     const char *c = n->path;
-    while ((*c >= 'a' && *c <= 'z') || (*c >= 'A' && *c <= 'Z') || (*c >= '0' && *c <= '9') || (*c && strchr("._/+,@%", *c)) || (*c == '-' && c > n->path)) c++;
+    while ((*c >= 'a' && *c <= 'z') || (*c >= 'A' && *c <= 'Z') || (*c >= '0' && *c <= '9') || (*c && strchr("._/", *c)) || (*c == '-' && c > n->path)) c++;
     return *c || !*n->path ? "IN" : n->path;
 }
 
 /* ---- what a file looks like instead */
 
+/* Four bytes at most from the first on, and four from another place on. */
 static const struct {
     const char *begin;
-    size_t length;
-    const char *name;
+    size_t length, place;
+    const char *there, *name;
 } formats[] = {
-    {"\x89PNG", 4, "a PNG file"}, {"\xff\xd8\xff", 3, "a JPEG file"}, {"GIF8", 4, "a GIF file"}, {"BM", 2, "a BMP file"}, {"II*\0", 4, "a TIFF file"},
-    {"MM\0*", 4, "a TIFF file"}, {"RIFF", 4, "a WebP file"}, {"P1", 2, "a plain PBM file (P1)"}, {"P2", 2, "a plain PGM file (P2)"},
-    {"P3", 2, "a plain PPM file (P3)"}, {"P4", 2, "a PBM file (P4)"}, {"P5", 2, "a PGM file (P5)"}, {"P6", 2, "a PPM file (P6)"}, {"P7", 2, "a PAM file (P7)"},
+    {"\x89PNG", 4, 0, NULL, "a PNG file"}, {"\xff\xd8\xff", 3, 0, NULL, "a JPEG file"}, {"GIF8", 4, 0, NULL, "a GIF file"},
+    {"BM", 2, 6, "\0\0\0\0", "a BMP file"}, {"II*\0", 4, 0, NULL, "a TIFF file"}, {"MM\0*", 4, 0, NULL, "a TIFF file"},
+    {"RIFF", 4, 8, "WEBP", "a WebP file"}, {"P1", 2, 0, NULL, "a plain PBM file (P1)"}, {"P2", 2, 0, NULL, "a plain PGM file (P2)"},
+    {"P3", 2, 0, NULL, "a plain PPM file (P3)"}, {"P4", 2, 0, NULL, "a PBM file (P4)"}, {"P5", 2, 0, NULL, "a PGM file (P5)"},
+    {"P6", 2, 0, NULL, "a PPM file (P6)"}, {"P7", 2, 0, NULL, "a PAM file (P7)"},
 };
 
 #define FORMATS (sizeof formats / sizeof *formats)
 
+static int is_format(const netpbm *n, size_t k)
+{
+    if (n->length < formats[k].length || memcmp(n->bytes, formats[k].begin, formats[k].length)) return 0;
+    return !formats[k].there || (n->length >= formats[k].place + 4 && !memcmp(n->bytes + formats[k].place, formats[k].there, 4));
+}
+
 static const char *format_of(const netpbm *n)
 {
     size_t k = 0;
-    while (k < FORMATS && (n->length < formats[k].length || memcmp(n->bytes, formats[k].begin, formats[k].length))) k++;
+    while (k < FORMATS && !is_format(n, k)) k++;
     return k < FORMATS ? formats[k].name : NULL;
 }
 
@@ -93,7 +102,8 @@ static int bad_length(const netpbm *n, size_t samples)
 {
     const char *what = input_name(n->path);
     size_t there = n->length - (size_t)n->start;
-    if (there > samples) return refuse(what, HAZE_BAD_LENGTH, "; the header announces %d bytes of them, and more follow", (int)samples);
+    if (there > samples)
+        return refuse(what, HAZE_BAD_LENGTH, "; the header announces %d bytes of them, and more follow; the first of several pictures: pampick 0 <%s >OUT", (int)samples, typed(n));
     return refuse(what, HAZE_BAD_LENGTH, "; the header announces %d bytes of them, and %d are there", (int)samples, (int)there);
 }
 
@@ -102,7 +112,7 @@ static int bad_length(const netpbm *n, size_t samples)
 int refuse_frame(const netpbm *n, uint8_t number, size_t pixels)
 {
     char convert[MORE_ROOM];
-    snprintf(convert, sizeof convert, "convert %s -depth 8 ppm:OUT.ppm", typed(n));
+    snprintf(convert, sizeof convert, "convert '%s[0]' -depth 8 ppm:OUT.ppm", typed(n));
     if (number == HAZE_BAD_HEADER) return bad_header(n, '6', convert);
     if (number == HAZE_BAD_SIZE) return bad_size(n);
     if (number == HAZE_BAD_LENGTH) return bad_length(n, pixels);
@@ -110,21 +120,25 @@ int refuse_frame(const netpbm *n, uint8_t number, size_t pixels)
     return refuse(input_name(n->path), number, "; it is %d; to convert it: %s", (int)n->maximum, convert);
 }
 
-static int bad_maximum(const netpbm *n, uint64_t maximum)
+/* Which maximum is wanted, of maps or of depths, or either where it is 0. */
+static int bad_maximum(const netpbm *n, uint64_t wanted)
 {
-    char wanted[sizeof "10000, nor that of depths, 918"];
-    snprintf(wanted, sizeof wanted, maximum ? "%d" : "10000, nor that of depths, 918", (int)maximum);
-    return say("%s: refused %d: the maximum of %s is not %s; it is %d; `raw` takes the numbers as they stand, `scaled` takes the maximum as %d",
-               input_name(n->path), HAZE_BAD_MAXIMUM, maximum == HAZE_DEEPEST ? "depths" : "a map", wanted, (int)n->maximum,
-               maximum ? (int)maximum : ALL_THROUGH);
+    const char *what = input_name(n->path), *help = "`raw` takes the numbers as they stand, `scaled` takes the maximum as";
+    int is = (int)n->maximum;
+    if (wanted == HAZE_DEEPEST) return say("%s: refused 12: the maximum of depths is not 918; it is %d; %s 918", what, is, help);
+    if (wanted && is == HAZE_DEEPEST) return say("%s: refused 12: the maximum of a map is not 10000; it is 918, so these are depths", what);
+    if (wanted) return say("%s: refused 12: the maximum of a map is not 10000; it is %d; %s 10000", what, is, help);
+    return say("%s: refused 12: the maximum is neither that of a map, 10000, nor that of depths, 918; it is %d; %s 10000, or 918 with the word `depth`", what, is,
+               help);
 }
 
-int refuse_numbers(const netpbm *n, uint8_t number, uint64_t maximum, size_t samples)
+int refuse_numbers(const netpbm *n, uint8_t number, taking how, uint64_t maximum, size_t samples)
 {
     char convert[MORE_ROOM];
-    snprintf(convert, sizeof convert, "convert %s -depth 16 pgm:OUT.pgm, then the word `scaled`", typed(n));
+    snprintf(convert, sizeof convert, "convert '%s[0]' -depth 16 pgm:OUT.pgm, then `raw` or `scaled`, whichever it holds", typed(n));
     if (number == HAZE_BAD_HEADER) return bad_header(n, '5', convert);
     if (number == HAZE_BAD_SIZE) return bad_size(n);
     if (number == HAZE_BAD_LENGTH) return bad_length(n, samples);
-    return bad_maximum(n, maximum);
+    if (how == EXACT) return bad_maximum(n, maximum);
+    return say("%s: refused 12: the maximum of a PGM file is 1 to 65535; it is %d", input_name(n->path), (int)n->maximum);
 }

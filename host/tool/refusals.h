@@ -3,6 +3,7 @@
 #define REFUSALS_H
 #include <stddef.h>
 #include <stdint.h>
+#include "frames.h"
 #include "netpbm.h"
 
 /* `WHAT: refused NUMBER: its meaning`, and what the format adds behind it. */
@@ -12,5 +13,5 @@ int refuse(const char *what, uint8_t number, const char *format, ...) __attribut
 int refuse_frame(const netpbm *n, uint8_t number, size_t pixels);
 
 /* A file that should be a map, or depths, whose maximum should be this, or either where it is 0. */
-int refuse_numbers(const netpbm *n, uint8_t number, uint64_t maximum, size_t samples);
+int refuse_numbers(const netpbm *n, uint8_t number, taking how, uint64_t maximum, size_t samples);
 #endif

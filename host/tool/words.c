@@ -61,8 +61,9 @@ static uint64_t *place(struct haze_settings *k, int kind)
     return places[kind];
 }
 
-/* For the words of a refusal. Whether a setting is refused is asked of the library. */
-static const struct { int least, most; } ranges[SETTINGS] = {{0, 30}, {0, 60}, {1, 10000}, {1, 585225}, {1, 10000}, {1, 1000}};
+/* What a word takes, for messages. Whether a value is refused is asked of the library. */
+static const char *const ranges[BARE] = {"0 to 30", "0 to 60", "1 to 10000", "1 to 585225", "1 to 10000", "1 to 1000", "three whole numbers, 1 to 255, parted by commas",
+                                         "the name of a file", "the name of a file", "a whole number, 0 to 10000"};
 
 /* Whether it is this setting that is refused: by itself, among the usual ones. */
 static int is_refused(int kind, uint64_t value)
@@ -83,7 +84,7 @@ int refuse_settings(const words *w)
     for (k = 0; k < SETTINGS; k++) {
         uint64_t value = *place(&settings, k);
         snprintf(what, sizeof what, "%s%lu", kinds[k], (unsigned long)value);
-        if (is_refused(k, value)) refuse(what, HAZE_BAD_SETTING, "; %.*s goes from %d to %d", (int)strlen(kinds[k]) - 1, kinds[k], ranges[k].least, ranges[k].most);
+        if (is_refused(k, value)) refuse(what, HAZE_BAD_SETTING, "; %.*s goes from %s", (int)strlen(kinds[k]) - 1, kinds[k], ranges[k]);
     }
     return 1;
 }
@@ -119,13 +120,21 @@ static int take_value(words *w, int kind, const char *text)
     return kind >= BARE || *text;
 }
 
+/* A value that is not of its kind. */
+static int wrong_value(const command *c, int k, const char *word)
+{
+    say("%s: %.*s takes %s%s", word, (int)strlen(kinds[k]) - 1, kinds[k], k < SETTINGS ? "a whole number, " : "", ranges[k]);
+    usage_of(c->name, stderr);
+    return 1;
+}
+
 static int take_setting(const command *c, words *w, const char *word)
 {
     int k = kind_of(c, word);
-    if (k == KINDS) return wrong_use(c->name, looks_like_setting(word) ? "this is no setting here: " : "this is a word more than it takes: ", word);
+    if (k == KINDS && !looks_like_setting(word)) return wrong_use(c->name, "this is a word more than it takes: ", word);
+    if (k == KINDS) return wrong_use(c->name, "this is no setting here (a file of that name is written with ./ before it): ", word);
     if (w->given[k]++) return wrong_use(c->name, "this setting stands twice: ", word);
-    if (take_value(w, k, word + strlen(kinds[k]))) return 0;
-    return wrong_use(c->name, k == MAP || k == DEPTH ? "a file's name is missing: " : "this is no number, or too large: ", word);
+    return take_value(w, k, word + strlen(kinds[k])) ? 0 : wrong_value(c, k, word);
 }
 
 /* ---- options: they may stand anywhere before `--` */
@@ -135,7 +144,7 @@ static int take_option(const command *c, words *w, char *word, char *next)
 {
     if (!strcmp(word, "-h") || !strcmp(word, "--help")) exit(print_page(c->name));
     if (!strcmp(word, "-v") && c->takes & TAKES(TIMES)) return w->times = 1, 0;
-    if (strcmp(word, "-o") || !(c->takes & TAKES(FOLDER))) return wrong_use(c->name, "this is no option here (behind -- it is the name of a file): ", word);
+    if (strcmp(word, "-o") || !(c->takes & TAKES(FOLDER))) return wrong_use(c->name, "this is no option here (behind -- it is a word as any other): ", word);
     if (w->folder) return wrong_use(c->name, "this option stands twice: ", word);
     w->folder = next;
     return next ? 0 : wrong_use(c->name, "the name of a folder is missing behind ", word);
@@ -158,13 +167,25 @@ static int take_options(const command *c, words *w, char **given, int count)
 
 /* ---- files, and settings behind them */
 
-/* How many files a command takes. With t= there is no map among them. */
+/* Whether one transmission is given for all pixels, so that there is no map among the files. */
+static int is_even(const command *c, const words *w)
+{
+    int k = 0;
+    while (k < w->count && !is_kind(w->files[k], T)) k++;
+    return k < w->count && c->takes & TAKES(T);
+}
+
+/* What the k-th file is called, or NULL behind the last. */
+static const char *place_name(const command *c, const words *w, int k)
+{
+    if (k > 0 && is_even(c, w)) k++;
+    return k < PLACES_MOST ? c->places[k] : NULL;
+}
+
 static int places_of(const command *c, const words *w)
 {
-    int n = 0, k;
-    for (k = 0; k < w->count && c->takes & TAKES(T); k++)
-        if (is_kind(w->files[k], T)) return 2;
-    while (n < 3 && c->places[n]) n++;
+    int n = 0;
+    while (place_name(c, w, n)) n++;
     return n;
 }
 
@@ -179,9 +200,10 @@ static int leading(const words *w)
 /* A place without a file. A setting there is most likely one for which a file was forgotten. */
 static int missing(const command *c, const words *w, int files)
 {
-    const char *wanted = c->places[files];
+    const char *wanted = place_name(c, w, files);
     if (files == w->count) return wrong_use(c->name, "a word is missing: ", wanted);
-    say("%s stands where %s is wanted; settings come behind the files, and a file of that name is written ./%s", w->files[files], wanted, w->files[files]);
+    if (!strchr(wanted, '.')) say("%s stands where %s, a number, is wanted; settings come behind it", w->files[files], wanted);
+    else say("%s stands where %s is wanted; settings come behind the files, and a file of that name is written ./%s", w->files[files], wanted, w->files[files]);
     usage_of(c->name, stderr);
     return 1;
 }
@@ -193,6 +215,7 @@ int take_words(const command *c, char **given, int count, words *w)
     if (take_options(c, w, given, count)) return 1;
     files = leading(w);
     if (files < (w->folder ? 1 : places_of(c, w))) return missing(c, w, files);
+    if (files > 2 && is_even(c, w)) return wrong_use(c->name, "with t= there is no map: ", w->files[1]);
     if (!w->folder) files = places_of(c, w);
     all = w->count;
     w->count = files;

@@ -24,10 +24,12 @@ typedef struct {
     int given[KINDS];
 } words;
 
+#define PLACES_MOST 3
+
 typedef struct {
     const char *name;
-    const char *places[3];  /* what its files are called; NULL behind the last */
-    unsigned takes;         /* which kinds of words */
+    const char *places[PLACES_MOST]; /* what its files are called, and numbers in their place; NULL behind the last */
+    unsigned takes;                  /* which kinds of words */
     int (*run)(const words *w);
 } command;
 
@@ -37,7 +39,7 @@ int take_words(const command *c, char **given, int count, words *w);
 /* Says what is wrong with the use of a command, or of the tool where it is NULL, and how it is used. Answers 1. */
 int wrong_use(const char *name, const char *what, const char *word);
 
-/* A whole number of 1 to 20 digits and nothing behind it. */
+/* A whole number of 1 to 20 digits and nothing else. */
 int number_in(const char *text, uint64_t *value);
 
 /* Which setting the library refuses, its value and its range. Answers 1. */

@@ -6,7 +6,8 @@ typedef uint32_t mode_t;
 struct stat {
     uint64_t st_dev, st_ino, st_nlink;
     mode_t st_mode;
-    uint32_t unused_after[29];
+    uint32_t st_uid, st_gid;
+    uint32_t unused_after[27];
 };
 _Static_assert(sizeof(struct stat) == 144, "the C library writes 144 bytes");
 #define S_ISREG(mode) (((mode) & 0170000) == 0100000)
