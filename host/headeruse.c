@@ -54,6 +54,7 @@ static int works_agree(void)
 
 static uint8_t picture_cleared(uint8_t *frame, uint8_t *picture)
 {
+    static const uint8_t pixels[3 * W * H] = {0};
     static int64_t work[HAZE_WORK(W, H)];
     struct haze_settings settings = HAZE_SETTINGS_DEFAULT;
     struct haze_rgb grey = {200, 200, 200};
@@ -63,7 +64,7 @@ static uint8_t picture_cleared(uint8_t *frame, uint8_t *picture)
     uint8_t answer = haze_light(W, H, &settings, frame, 3 * W * H, work, HAZE_WORK(W, H), &lights);
     if (answer == HAZE_DONE) {
         lights.light = grey;
-        answer = haze_replace(W, H, &settings, &lights, &rect, picture, 3 * W * H, frame, 3 * W * H, map, W * H, picture, 3 * W * H, work,
+        answer = haze_replace(W, H, &settings, &lights, &rect, pixels, 3 * W * H, frame, 3 * W * H, map, W * H, picture, 3 * W * H, work,
                               sizeof work / sizeof work[0]);
     }
     if (answer == HAZE_DONE) answer = haze_depths(W, H, map, W * H, depths, W * H);

@@ -4,7 +4,7 @@ function plain(text) {
     gsub(/-/, "\\-", text)
     gsub(/`/, "\\(ga", text)
     gsub(/'/, "\\(aq", text)
-    return text ~ /^\./ ? "\\\&" text : text
+    return text ~ /^\./ ? "\\&" text : text
 }
 function kept(yes) { # whether lines are kept as they are from here on
     if (yes != keeping) print yes ? ".nf" : ".fi"

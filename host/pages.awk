@@ -8,7 +8,7 @@ FNR == 1 {
     printf "{\"%s\",", topic
 }
 {
-    gsub(/\\/, "\\\\")
+    gsub(/\\/, "&&")
     gsub(/"/, "\\\"")
     printf "\n \"%s\\n\"", $0
 }

@@ -6,6 +6,7 @@ int *__errno_location(void);
 #define ENOENT 2
 #define EINTR 4
 #define EBADF 9
+#define EWOULDBLOCK 11
 #define EEXIST 17
 #define EISDIR 21
 #define EINVAL 22

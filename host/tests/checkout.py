@@ -11,7 +11,7 @@ import threading
 import time
 from pathlib import Path
 
-from common import ROOT, X86, check, cleared, hazy, light_of, pgm, ppm, put
+from common import ROOT, X86, check, cleared, hazy, light_of, ppm, put
 from places import without_override
 
 SIZE = (16, 12)
@@ -130,6 +130,42 @@ def again():
     says(haze("light", "in.ppm"), 0, LIGHT)
 
 
+def sums():
+    """What the tool is made of, file by file: another one of any is another sum, of the crates for the library too."""
+    def made_of(which):
+        return subprocess.run(["host/made-of", which], cwd="copy", capture_output=True, text=True, check=True).stdout
+
+    put("stamp", b"")
+    os.utime("stamp", (time.time() - 2, time.time() - 2))
+    for name, library in (("crates/pixel/src/lib.rt", True), ("crates/pixel/proofs/Lib.antt", True), ("crates/rules/specs/Lib.antt", True), ("host/build", False),
+                          ("host/headers/sys/stat.h", False), ("host/pages.awk", False), ("host/help/add.txt", False), ("host/tool/view.c", False),
+                          ("include/haze.h", False)):
+        before, data = (made_of("library"), made_of("tool")), Path("copy", name).read_bytes()
+        put("copy/" + name, data + b"\n")
+        after = made_of("library"), made_of("tool")
+        put("copy/" + name, data)
+        check((before[0] != after[0]) == library and before[1] != after[1] and (made_of("library"), made_of("tool")) == before, name)
+    before, data = made_of("library"), Path("copy/crates.txt").read_bytes()
+    put("copy/crates.txt", data.replace(b"adding: rules pixel", b"adding: rules pixel judge"))
+    check(made_of("library") != before, "crates.txt")
+    put("copy/crates.txt", data)
+    newer = subprocess.run(["host/made-of", "newer", os.path.abspath("stamp")], cwd="copy", capture_output=True, text=True).stdout
+    check(newer.count("\n") == 1, newer)
+
+
+def failed_once():
+    """A build that fails is tried again by the next run."""
+    put("broken", b"")
+    with open("copy/crates/pixel/src/lib.rt", "a") as file:
+        file.write("\n")
+    check(haze("light", "in.ppm").returncode == 1, "a build that fails")
+    check(haze("light", "in.ppm").returncode == 1, "a build that fails again")
+    Path("broken").unlink()
+    run = haze("light", "in.ppm")
+    check((run.returncode, run.stdout) == (0, LIGHT) and "the tool is built" in run.stderr, run)
+    calls()
+
+
 def two_at_once():
     """Of two that find it to be built one builds, and the other says that it waits."""
     with open("copy/host/tool/say.c", "a") as file:
@@ -193,6 +229,7 @@ def installed():
     run = haze("install", "prefix")
     check(run.returncode == 0 and run.stdout.split() == [os.path.abspath("prefix/" + name) for name in FILES], run)
     check(sorted(str(path.relative_to("prefix")) for path in Path("prefix").rglob("*") if path.is_file()) == sorted(FILES), "other files than those")
+    check([os.stat("prefix/" + name).st_mode & 0o777 for name in FILES] == [0o755, 0o644, 0o644, 0o644, 0o644], "modes of what is installed")
     os.rename("copy", "gone")
     says(alone("light", "in.ppm"), 0, LIGHT)
     says(alone("clear", "in.ppm", "out.ppm"), 0)
@@ -228,16 +265,22 @@ def library():
 
 
 def man_page():
-    """Without a warning, with every page in it, and each example as it stands."""
+    """Without a warning, for 80 columns, with every page in it; uses, tables and examples line by line as they stand."""
     if not X86 or not shutil.which("groff"):
         return
     run = subprocess.run(["groff", "-man", "-Tascii", "-P-cbou", "-ww", "-rLL=78n", "-rHY=0", "prefix/share/man/man1/haze.1"], capture_output=True, text=True)
     check((run.returncode, run.stderr) == (0, ""), run.stderr)
     check(all(len(line) <= 80 for line in run.stdout.splitlines()), "lines that are too long for 80 columns")
+    lines, version = [line.strip() for line in run.stdout.splitlines()], haze("--version").stdout.strip()
+    check({"NAME", "SYNOPSIS", "DESCRIPTION", "CLEAR", "SETTINGS", "Examples", "haze - removes haze from camera frames, and adds it"} <= set(lines), "headings")
+    check(version in lines[-1] and "\\-o DIR" in Path("prefix/share/man/man1/haze.1").read_text(), lines[-1])
     text = " ".join(run.stdout.split())
     for page in (ROOT / "host/help").glob("*.txt"):
+        use = page.read_text().split("\n\n")[0].splitlines()
         for line in page.read_text().splitlines():
             check(" ".join(line.split()) in text, page.stem, "misses in the man page:", line)
+            check(line.strip() in lines or not (line in use or line.startswith("  ")), page.stem, "does not keep in the man page:", line)
+        check(text.count("haze " + page.stem + " ") or page.stem in ("haze", "settings", "files"), page.stem)
 
 
-ALL = (copy, before, first_use, built, again, two_at_once, linked, shut, installed, library, man_page)
+ALL = (copy, before, first_use, built, again, sums, failed_once, two_at_once, linked, shut, installed, library, man_page)

@@ -110,6 +110,14 @@ def printed(words, wanted, **how):
     check((run.returncode, run.stdout, run.stderr) == (0, wanted, ""), words, run)
 
 
+def usage_of(words):
+    """The first lines of the command's page, or of the tool's, and where the rest is."""
+    page = ROOT / "host/help" / f"{words[0] if words else ''}.txt"
+    known = page.exists() and page.stem not in ("settings", "files", "haze")
+    text = (page if known else ROOT / "host/help/haze.txt").read_text()
+    return text.split("\n\n")[0] + "\n`haze help%s` says more.\n" % (" " + page.stem if known else "")
+
+
 def refused(words, why, **how):
     """A run that ends with status 1, says why on standard error and leaves the folder as it was, file by file and byte by byte; with the output's name,
     `fresh`, free and taken. `why` is a pattern for the first line; more lines say how the command is used."""
@@ -121,6 +129,6 @@ def refused(words, why, **how):
         check(run.returncode == 1 and not run.stdout, words, run)
         first, _, rest = run.stderr.partition("\n")
         check(re.fullmatch("haze: " + why, first), words, run.stderr, "is not", why)
-        check(not rest or rest.endswith(" says more.\n") and rest.startswith("haze "), words, run.stderr)
+        check(rest in ("", usage_of(words)), words, run.stderr)
         check(seen() == before, words, "changed the folder")
     Path("fresh").unlink(missing_ok=True)

@@ -1,9 +1,9 @@
 /* Stands before the C library's calls on files when the tests of the tool preload it, and does what the environment says:
  *   FAULTS_LOG=FILE       a line for each call, in order
  *   FAULTS_FAIL=CALL:N:E  the N-th call of that name, from 1, fails with the error number E
- *   FAULTS_WAIT=CALL:N    the N-th call waits for a signal; that it waits is in the log
+ *   FAULTS_WAIT=CALL:N    the N-th call waits for a signal, or until the file FAULTS_GO is there; that it waits is in the log
  *   FAULTS_SHORT=1        a write writes one byte at most
- * It compiles without headers, as the other host programs do. */
+ * It compiles without the system's headers, as the other host programs do. */
 #include <errno.h>
 #include <fcntl.h>
 #include <stddef.h>
@@ -11,16 +11,16 @@
 #include <stdlib.h>
 #include <string.h>
 #include <sys/stat.h>
+#include <time.h>
 #include <unistd.h>
 
 long syscall(long number, ...);
 char *getenv(const char *name);
-int pause(void);
 
-enum { WRITE, FSYNC, RENAMEAT, FCHMOD, FLOCK, CALLS };
+enum { READ, WRITE, FSYNC, RENAMEAT, FCHMOD, FLOCK, CALLS };
 
-static const char *const names[CALLS] = {"write", "fsync", "renameat", "fchmod", "flock"};
-static const long numbers[CALLS] = {1, 74, 264, 91, 73}; /* of the system, on x86-64 */
+static const char *const names[CALLS] = {"read", "write", "fsync", "renameat", "fchmod", "flock"};
+static const long numbers[CALLS] = {0, 1, 74, 264, 91, 73}; /* of the system, on x86-64 */
 static int made[CALLS];
 
 static void note(const char *text, const char *more)
@@ -44,16 +44,22 @@ static int is_now(const char *setting, int call, const char **rest)
     return 1;
 }
 
+/* Looks for the file every millisecond. */
+static void wait_to_go(void)
+{
+    const char *path = getenv("FAULTS_GO");
+    const struct timespec moment = {0, 1000000};
+    note("waits", "");
+    while (!path || syscall(21, path, 0)) nanosleep(&moment, NULL); /* access */
+}
+
 /* Whether the call is to fail, with errno set. */
 static int fails(int call, const char *about)
 {
     const char *rest = NULL;
     made[call]++;
     note(names[call], about);
-    if (is_now("FAULTS_WAIT", call, &rest)) {
-        note("waits", "");
-        pause();
-    }
+    if (is_now("FAULTS_WAIT", call, &rest)) wait_to_go();
     if (!is_now("FAULTS_FAIL", call, &rest)) return 0;
     errno = atoi(rest + 1);
     return 1;
@@ -68,6 +74,8 @@ static const char *kind_of(int file)
     if (fstat(file, &found)) return " nothing";
     return S_ISDIR(found.st_mode) ? " folder" : S_ISREG(found.st_mode) ? " file" : " other";
 }
+
+ssize_t read(int file, void *to, size_t room) { return fails(READ, kind_of(file)) ? -1 : by_system(READ, file, (long)to, (long)room, 0); }
 
 ssize_t write(int file, const void *from, size_t length)
 {

@@ -23,8 +23,9 @@ FRAME = hazy(SIZE, 0)
 
 
 def without_override():
-    """Root may write into any folder, unless this capability is dropped (PR_CAPBSET_DROP, CAP_DAC_OVERRIDE)."""
-    ctypes.CDLL(None).prctl(24, 1, 0, 0, 0)
+    """Root may write into any folder and read it, unless these capabilities are dropped (PR_CAPBSET_DROP, CAP_DAC_OVERRIDE, CAP_DAC_READ_SEARCH)."""
+    for capability in (1, 2):
+        ctypes.CDLL(None).prctl(24, capability, 0, 0, 0)
 
 
 def begin():
@@ -105,6 +106,9 @@ def leftovers():
     check(all(Path(name).read_bytes() == b"left" for name in names), "what was left was touched")
     for name in names[1:]:
         Path(name).unlink()
+    for name, kept in (("x" * 250, "x" * 100), ("x" + "ü" * 100, "x" + "ü" * 49)):     # of a long name 100 bytes, in whole letters
+        put(kept + ".0.new", b"left")
+        done(["clear", "frame.ppm", name], (name, picture), said=f"haze: {kept}.0.new: nobody writes it; a run that was killed may have left it\n")
     os.mkdir("sub")
     put("sub/taken.ppm.0.new", b"left")
     done(["clear", "frame.ppm", "sub/taken.ppm"], ("sub/taken.ppm", picture), said="haze: sub/" + said.splitlines(True)[0][6:])
@@ -149,7 +153,7 @@ def order():
     put("out.ppm", b"old")
     done(["clear", "frame.ppm", "out.ppm"], **with_faults(log="log"))
     log = Path("log").read_text().splitlines()
-    check([line for line in log if not line.startswith("write")] ==
+    check([line for line in log if not line.startswith(("write", "read"))] ==
           ["flock folder", "flock file", "flock folder", "fchmod file", "fsync file", "renameat out.ppm.0.new out.ppm", "fsync folder"], log)
     check(log.index("fchmod file") < log.index("write file") < log.index("fsync file"), log)
     Path("log").unlink()
@@ -166,7 +170,8 @@ def failing():
         for call in ("write:3", "fsync:3", "write:2", "fsync:2"):
             refused(["clear", "frame.ppm", "fresh", "map=m.pgm", "depth=d.pgm"], f"(fresh|d.pgm): cannot be written: {words}", **with_faults(fail=f"{call}:{number}"))
     picture = ppm(SIZE, cleared(SIZE, FRAME)[1])
-    for call in (f"fsync:2:{errno.EINVAL}", f"fchmod:1:{errno.EPERM}", f"flock:1:{errno.ENOLCK}", f"flock:2:{errno.ENOLCK}", f"write:1:{errno.EINTR}"):
+    refused(["clear", "frame.ppm", "fresh"], "frame.ppm: cannot be read: Input/output error", **with_faults(fail=f"read:2:{errno.EIO}"))
+    for call in (f"read:1:{errno.EINTR}", f"read:2:{errno.EINTR}", f"fsync:2:{errno.EINVAL}", f"fchmod:1:{errno.EPERM}", f"flock:1:{errno.ENOLCK}", f"flock:2:{errno.ENOLCK}", f"write:1:{errno.EINTR}"):
         put("out.ppm", b"old")
         done(["clear", "frame.ppm", "out.ppm"], ("out.ppm", picture), **with_faults(fail=call))
     run = haze("clear", "frame.ppm", "out.ppm", **with_faults(fail=f"fsync:2:{errno.EIO}"))
@@ -198,10 +203,10 @@ def without_hangup():
     signal.signal(signal.SIGHUP, signal.SIG_IGN)
 
 
-def waiting(call, words, before=as_usual):
+def waiting(call, words, before=as_usual, **faults):
     """A run that waits in a call."""
     Path("log").unlink(missing_ok=True)
-    run = subprocess.Popen([*common.tool, *words], stderr=subprocess.PIPE, text=True, preexec_fn=before, **with_faults(wait=call, log="log"))
+    run = subprocess.Popen([*common.tool, *words], stderr=subprocess.PIPE, text=True, preexec_fn=before, **with_faults(wait=call, log="log", **faults))
     until(lambda: Path("log").exists() and "waits" in Path("log").read_text())
     Path("log").unlink()
     return run
@@ -225,6 +230,19 @@ def signals():
     check(Path("end.ppm").read_bytes() == b"old" and Path("end.ppm.0.new").exists(), "a killed run leaves the old file and the new one")
     run = haze("clear", "frame.ppm", "end.ppm")
     check((run.returncode, run.stderr) == (0, "haze: end.ppm.0.new: nobody writes it; a run that was killed may have left it\n"), run)
+
+
+def signal_between_names():
+    """A signal that comes while the files take their names waits until all have them."""
+    put("out.ppm", b"old")
+    put("m.pgm", b"old")
+    run = waiting("renameat:1", ["clear", "frame.ppm", "out.ppm", "map=m.pgm"], go="go")
+    run.terminate()
+    time.sleep(0.05)
+    put("go", b"")
+    map, picture = cleared(SIZE, FRAME)
+    check(run.wait(60) == -signal.SIGTERM and Path("out.ppm").read_bytes() == ppm(SIZE, picture) and Path("m.pgm").read_bytes() == pgm(SIZE, map), run.returncode)
+    check(not [*Path(".").glob("m.pgm.*"), *Path(".").glob("out.ppm.*")], "a new file is left")
 
 
 def harmless_signals():
@@ -280,4 +298,4 @@ def ignored_signals():
 
 
 PLAIN = (begin, no_place, folder_of_another, full_disk, long_names, owned, leftovers, side_by_side)
-ALL = PLAIN + ((order, failing, one_name_refused, secret, signals, harmless_signals, ignored_signals) if FAULTS.exists() and X86 else ())
+ALL = PLAIN + ((order, failing, one_name_refused, secret, signals, signal_between_names, harmless_signals, ignored_signals) if FAULTS.exists() and X86 else ())

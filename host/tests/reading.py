@@ -11,7 +11,7 @@ from pathlib import Path
 import common
 import ppm as second
 import ppmfiles
-from common import X86, check, cleared, done, haze, hazy, ppm, put, refused
+from common import X86, check, cleared, done, haze, hazy, pgm, ppm, put, refused
 
 MORE = "{0}: refused 13: the pixels are short or bytes are left over; the header announces {1} bytes of them, and more follow; " \
        "the first of several pictures: pampick 0 <{0} >OUT"
@@ -142,6 +142,14 @@ def closed():
                 os.dup2(os.open("said", os.O_WRONLY | os.O_CREAT), 2)
             os.execvp(common.tool[0], [*common.tool, "clear", "-v", "frame.ppm", "out.ppm"])
         check(os.waitpid(child, 0)[1] == 0 and Path("out.ppm").read_bytes() == data, "closed", shut)
+    put("out.ppm.0.new", b"left")    # which is said while the map is open
+    child = os.fork()
+    if not child:
+        os.close(1)
+        os.close(2)
+        os.execvp(common.tool[0], [*common.tool, "clear", "frame.ppm", "out.ppm", "map=map.pgm"])
+    check(os.waitpid(child, 0)[1] == 0 and Path("map.pgm").read_bytes() == pgm((3, 2), cleared((3, 2), list(range(100, 118)))[0]), "a message went into the map")
+    Path("out.ppm.0.new").unlink()
     child = os.fork()
     if not child:
         os.close(1)

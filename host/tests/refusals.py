@@ -4,9 +4,8 @@ import os
 import re
 from pathlib import Path
 
-import common
 import rules
-from common import NAMES, check, haze, hazy, pgm, ppm, put, refused
+from common import NAMES, check, haze, pgm, ppm, put, refused
 from written import words_of
 
 SIZE = "width or height is not 1 to 1024, or there are more than 262144 pixels"
@@ -199,6 +198,20 @@ def words():
         refused(["band", *words], "this is no number of a row: .*")
 
 
+VALUES = {name: name + "=5" for name in (*NAMES, "t")} | {"light": "light=1,2,3", "map": "map=x", "depth=": "depth=x", "raw": "raw", "scaled": "scaled", "depth": "depth"}
+FRAMES = {*NAMES, "light"}
+TAKES = {"clear": FRAMES | {"map", "depth="}, "map": FRAMES, "depth": FRAMES, "light": set(NAMES), "band": FRAMES, "add": {"light", "t", "raw", "scaled"},
+         "view": {"raw", "scaled", "depth"}}
+
+
+def kinds():
+    """Which words each command takes, and no others; and which take -v."""
+    for command, takes in TAKES.items():
+        for name in VALUES.keys() - takes:
+            refused([command, *GOOD[command], VALUES[name]], (NO_SETTING if "=" in VALUES[name] else "this is a word more than it takes: ") + VALUES[name])
+    refused(["view", "map.pgm", "fresh", "-v"], "this is no option here .*: -v")
+
+
 def words_together():
     """Words that are good alone and mean nothing together."""
     both = {"add": "a map is either raw or scaled", "view": "the numbers are either raw or scaled"}
@@ -212,6 +225,10 @@ def words_together():
     refused(["add", "-", "-", "fresh"], "standard input can be read once, not twice")
     refused(["clear", "frame.ppm", "fresh", "map=fresh"], "fresh: cannot be written: two files of this run would go there")
     refused(["clear", "frame.ppm", "fresh", "map=one", "depth=./one"], "./one: cannot be written: two files of this run would go there")
+    refused(["clear", "frame.ppm", "fresh", "map=fresh", "depth=two"], "fresh: cannot be written: two files of this run would go there")
+    refused(["clear", "frame.ppm", "fresh", "map=two", "depth=fresh"], "fresh: cannot be written: two files of this run would go there")
+    for words in (["add", "frame.ppm", "fresh", "t=1", "t=2"], ["view", "map.pgm", "fresh", "raw", "raw"], ["view", "map.pgm", "fresh", "depth", "raw", "depth"]):
+        refused(words, "this setting stands twice: " + words[-1])
     refused(["clear", "frame.ppm", "-", "map=-"], "standard output: cannot be written: two files of this run would go there")
 
 
@@ -240,7 +257,10 @@ def several():
     refused(["clear", "-o", "to", "s=5", "frame.ppm"], "s=5 stands where IN.ppm is wanted.*")
     refused(["clear", "-o", "to", "frame.ppm", "T0=3000"], NO_SETTING + "T0=3000")
     refused(["clear", "-o", "to", "frame.ppm", "s=5", "a/frame.ppm"], "this is a word more than it takes: a/frame.ppm")
-    refused(["clear", "-o", "to", "frame.ppm", "map=m.pgm"], "with -o there is no map=")
+    for word in ("map=", "depth="):
+        refused(["clear", "-o", "to", "frame.ppm", word + "x.pgm"], "with -o there is no " + word)
+    put("b.ppm", Path("frame.ppm").read_bytes())
+    refused(["clear", "-o", "to", "frame.ppm", "b.ppm", "a/frame.ppm"], "a/frame.ppm: another frame of this run has the same name; in to there can be one")
     refused(["clear", "-o", "to", "frame.ppm", "a/frame.ppm"], "a/frame.ppm: another frame of this run has the same name; in to there can be one")
     refused(["clear", "-o", ".", "frame.ppm"], "frame.ppm: stands in . and would be replaced itself; name another folder")
     refused(["clear", "-o", "a/../a", "a/frame.ppm"], "a/frame.ppm: stands in a/../a and would be replaced itself; name another folder")
@@ -258,4 +278,4 @@ def frame():
     put("frame.ppm", ppm((3, 2), range(100, 118)))
 
 
-ALL = (frame, files, maps, maps_of_others, settings, words, words_together, lost, several)
+ALL = (frame, files, maps, maps_of_others, settings, words, kinds, words_together, lost, several)

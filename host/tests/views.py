@@ -311,6 +311,8 @@ def of_others():
         wanted = Path("exact.ppm").read_bytes()
         put("raw.pgm", pgm((3, 2), entries, 65535))
         done(["view", "raw.pgm", "out.ppm", "raw", *words], ("out.ppm", wanted))
+        put("depths.pgm", pgm((3, 2), entries, 918 if top == 10000 else 10000))
+        done(["view", "depths.pgm", "out.ppm", "raw", *words], ("out.ppm", wanted))
         put("scaled.pgm", pgm((3, 2), [(2 * entry * 65535 + top) // (2 * top) for entry in entries], 65535))
         done(["view", "scaled.pgm", "out.ppm", *words, "scaled"], ("out.ppm", wanted))
 

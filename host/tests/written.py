@@ -1,9 +1,13 @@
 """What the tool writes and prints, against the second program."""
 
+import fcntl
 import os
 import pty
 import re
+import resource
 import stat
+import struct
+import termios
 from pathlib import Path
 
 import depth
@@ -85,6 +89,10 @@ def standard_files():
     for files, given in ((["-", "map.pgm"], ppm(size, frame)), (["in.ppm", "-"], pgm(size, map))):
         run = haze("add", *files, "-", "light=9,8,7", text=False, input=given)
         check((run.returncode, run.stdout, run.stderr) == (0, hazy_again, b""), files, run.returncode, run.stderr)
+    run = haze("add", "-", "-", "t=5000", "light=9,8,7", text=False, input=ppm(size, frame))
+    check((run.returncode, run.stdout, run.stderr) == (0, ppm(size, hazed(size, frame, [5000] * len(map), (9, 8, 7))), b""), run.returncode, run.stderr)
+    run = haze("light", "-", "-v", *words, text=False, input=ppm(size, frame))
+    check(run.stderr.startswith(b"haze: standard input: 16 by 12, light="), run)
     check(haze("light", "-", *words, text=False, input=ppm(size, frame)).stdout == b"%d,%d,%d\n" % light_of(size, frame, settings), "light of standard input")
 
 
@@ -92,7 +100,7 @@ def maps_of_others():
     """Other maxima, one byte or two a sample: raw numbers as they stand, scaled ones to the nearest."""
     size, clean = (16, 16), hazy((16, 16), "others")
     put("clean.ppm", ppm(size, clean))
-    for maximum in (255, 256, 918, 9999, 10000, 16383, 65535, 1, 7):
+    for maximum in (255, 256, 918, 9999, 10000, 16383, 65535, 1, 7, 32):     # 32: there are halves
         samples = [k * min(maximum, 10000) // 255 for k in range(256)]
         put("m.pgm", pgm(size, samples, maximum))
         done(["add", "clean.ppm", "m.pgm", "out.ppm", "light=250,251,252", "raw"], ("out.ppm", ppm(size, hazed(size, clean, samples, (250, 251, 252)))))
@@ -108,7 +116,9 @@ def names_of_words():
     frame = hazy(size, "names")
     data, picture = ppm(size, frame), ppm(size, cleared(size, frame)[1])
     put("s=5", data)
+    put("=x", data)
     put("-v", data)
+    done(["clear", "=x", "out.ppm"], ("out.ppm", picture))
     put("raw", data)
     done(["clear", "./s=5", "./light=1,2,3"], ("light=1,2,3", picture))
     done(["clear", "--", "-v", "-x"], ("-x", picture))
@@ -122,7 +132,6 @@ def spoken():
     """-v: the light and times on standard error, nothing else changed."""
     size = (16, 12)
     frame = hazy(size, "spoken")
-    map, picture = cleared(size, frame)
     put("in.ppm", ppm(size, frame))
     light = "%d,%d,%d" % light_of(size, frame)
     for command, files, step in (("clear", ["out"], "clear {0}, write"), ("map", ["out"], "clear {0}, write"), ("depth", ["out"], "clear {0}, write"),
@@ -133,9 +142,10 @@ def spoken():
             check(run.returncode == 0 and re.fullmatch(wanted.format(r"\d+\.\d ms"), run.stderr), words, run)
 
 
-def on_a_terminal(words):
-    """What is said on standard error when that is a terminal."""
+def on_a_terminal(words, columns):
+    """What is said on standard error when that is a terminal of so many columns."""
     leader, follower = pty.openpty()
+    fcntl.ioctl(follower, termios.TIOCSWINSZ, struct.pack("HHHH", 24, columns, 0, 0))
     child = os.fork()
     if not child:
         os.dup2(follower, 2)
@@ -162,11 +172,18 @@ def several():
     done(["clear", "-o", "to", *["from/" + name for name in frames]], *wanted)
     done(["clear", *["from/" + name for name in frames], "-o", "to/.", "light=200,210,220", "s=2"],
          *[("to/" + name, ppm(size, cleared(size, frame, (2, *rules.DEFAULTS[1:]), (200, 210, 220))[1])) for name, frame in frames.items()])
-    status, said = on_a_terminal(["clear", "-o", "to", *["from/" + name for name in frames]])
-    check(status == 0 and said.endswith("\r"), status, repr(said))
-    check([part for part in said.split("\r") if part.strip()] == ["1 of 3: from/a.ppm", "2 of 3: from/b c.ppm", "3 of 3: from/-d.ppm"], repr(said))
-    # one that fails does not keep the others
     put("from/bad.ppm", b"P6 4 3 255 ")
+    names = ["from/a.ppm", "from/b c.ppm", "from/bad.ppm", "from/-d.ppm"]
+    for columns in (0, 80, 15):
+        lines = [f"{k + 1} of 4: {name}"[:(columns or 80) - 1] for k, name in enumerate(names)]
+        error = haze("clear", "-o", "to", "from/bad.ppm").stderr.splitlines()[0] + "\r\n"
+        wiped = ["\r" + " " * len(line) + "\r" for line in lines]
+        shown = lines[0] + wiped[0] + lines[1] + wiped[1] + lines[2] + wiped[2] + error + lines[3] + wiped[3] + "haze: 1 of 4 frames failed\r\n"
+        status, said = on_a_terminal(["clear", "-o", "to", *names], columns)
+        check(status == 256 and said == shown, columns, repr(said), repr(shown))
+    status, said = on_a_terminal(["clear", "-o", "to", "from/a.ppm", "none/" + "ü" * 9], 20)
+    check(status == 256 and "2 of 2: none/" + "ü" * 3 + "\r" in said, repr(said))
+    # one that fails does not keep the others
     for name, data in wanted:
         Path(name).unlink()
     run = haze("clear", "-o", "to", "from/a.ppm", "from/bad.ppm", "none", "from/b c.ppm", "from/-d.ppm")
@@ -174,12 +191,32 @@ def several():
     check(all(Path(name).read_bytes() == data for name, data in wanted) and not Path("to/bad.ppm").exists(), "the others of a run")
 
 
+def very_many():
+    """More frames than files can be open at once."""
+    os.mkdir("many")
+    os.mkdir("into")
+    names = [put(f"many/{k}.ppm", ppm((1, 1), [k, 7, 9])) for k in range(50)]
+    done(["clear", "-o", "into", *names], preexec_fn=lambda: resource.setrlimit(resource.RLIMIT_NOFILE, (16, 16)))
+    check(len(os.listdir("into")) == 50, "frames are missing")
+
+
+def same_names():
+    """Files of one name in different folders are different files."""
+    size = (4, 3)
+    frame = hazy(size, "same")
+    map, picture = cleared(size, frame)
+    for folder in ("one", "two"):
+        os.mkdir(folder)
+    put("in.ppm", ppm(size, frame))
+    done(["clear", "in.ppm", "one/x", "map=two/x", "depth=x"], ("one/x", ppm(size, picture)), ("two/x", pgm(size, map)), ("x", pgm(size, depths_of(size, map), 918)))
+
+
 def kept_modes():
     """The mode of the old file, and of a new one that of the system."""
     put("in.ppm", ppm((4, 3), hazy((4, 3), 0)))
     mask = os.umask(0)
     os.umask(mask)
-    for mode in (0o600, 0o444, 0o664, 0o755):
+    for mode in (0o600, 0o444, 0o664, 0o755, 0o1640):
         put("old.ppm", b"")
         os.chmod("old.ppm", mode)
         done(["clear", "in.ppm", "old.ppm", "map=new.pgm"])
@@ -188,4 +225,4 @@ def kept_modes():
         Path("new.pgm").unlink()
 
 
-ALL = (frames, standard_files, maps_of_others, names_of_words, spoken, several, kept_modes)
+ALL = (frames, standard_files, maps_of_others, names_of_words, spoken, several, very_many, same_names, kept_modes)

@@ -12,18 +12,20 @@
 
 /* ---- depths */
 
-/* Every map here is one that the library made or took, so there is nothing to refuse. */
-static map depths_of(const map *m)
+/* The number of a map that depths are asked of, and the depths. */
+static uint8_t depths_of(const map *m, map *depths)
 {
-    map depths = new_map(m->w, m->h);
-    haze_depths(m->w, m->h, m->entries, m->count, depths.entries, depths.count);
-    return depths;
+    *depths = new_map(m->w, m->h);
+    return haze_depths(m->w, m->h, m->entries, m->count, depths->entries, depths->count);
 }
 
+/* Of a map that the library made, so there is nothing to refuse. */
 static content depth_file(const map *m)
 {
-    map depths = depths_of(m);
-    content file = map_file(&depths, HAZE_DEEPEST);
+    map depths;
+    content file;
+    depths_of(m, &depths);
+    file = map_file(&depths, HAZE_DEEPEST);
     free(depths.entries);
     return file;
 }
@@ -75,9 +77,6 @@ static int map_of(const words *w) { return clear_one(w, w->files[0], NULL, w->fi
 static int depth_of(const words *w) { return clear_one(w, w->files[0], NULL, NULL, w->files[1]); }
 
 /* ---- light, band */
-
-/* What was printed is there when the program ends, or that is said. */
-static int printed(void) { return fflush(stdout) ? say("standard output: cannot be written") : DONE; }
 
 static int light_of(const words *w)
 {
@@ -216,8 +215,8 @@ static int add(const words *w)
 
 static uint8_t map_number(const map *m)
 {
-    map depths = new_map(m->w, m->h);
-    uint8_t number = haze_depths(m->w, m->h, m->entries, m->count, depths.entries, depths.count);
+    map depths;
+    uint8_t number = depths_of(m, &depths);
     free(depths.entries);
     return number;
 }

@@ -1,6 +1,5 @@
 #include "frames.h"
 #include <stdio.h>
-#include <stdlib.h>
 #include <string.h>
 #include "haze.h"
 #include "memory.h"

@@ -1,5 +1,5 @@
 /* haze: clears frames of their haze, gives their light, transmission maps and relative depths, and adds haze to clean frames. Frames are PPM files, maps and
- * depths PGM files. What is worked out, and what is refused, is the proved library's; here are words, files and messages. */
+ * depths PGM files. What is worked out, and refused, is the proved library's; here are words, files, messages and the colours of `view`. */
 #include <fcntl.h>
 #include <stdio.h>
 #include <string.h>
@@ -23,7 +23,7 @@ static int is_help(const char *word) { return !strcmp(word, "help") || !strcmp(w
 static int version(void)
 {
     printf("haze %s\n", HAZE_VERSION);
-    return fflush(stdout) ? say("standard output: cannot be written") : 0;
+    return printed();
 }
 
 int main(int count, char **given)

@@ -112,13 +112,19 @@ static int same_place(const output *a, const output *b)
     return folder_a.st_dev == folder_b.st_dev && folder_a.st_ino == folder_b.st_ino;
 }
 
+static int same_place_before(const output *outputs, int k)
+{
+    int j = 0;
+    while (j < k && !same_place(outputs + j, outputs + k)) j++;
+    return j < k;
+}
+
 static int find_places(output *outputs, int count)
 {
     int k;
     for (k = 0; k < count; k++) {
         if (find_place(outputs + k)) return 1;
-        if (k > 0 && same_place(outputs + k, outputs)) return unwritable(outputs + k, "two files of this run would go there");
-        if (k > 1 && same_place(outputs + k, outputs + 1)) return unwritable(outputs + k, "two files of this run would go there");
+        if (same_place_before(outputs, k)) return unwritable(outputs + k, "two files of this run would go there");
     }
     return 0;
 }
@@ -142,17 +148,28 @@ static int hold_folder(const output *o)
 {
     const struct timespec moment = {0, 1000000};
     int tries = 100;
-    while (flock(o->folder, LOCK_EX | LOCK_NB) && --tries) nanosleep(&moment, NULL);
-    return tries > 0;
+    int refused = flock(o->folder, LOCK_EX | LOCK_NB);
+    for (; refused && errno == EWOULDBLOCK && tries; tries--) {
+        nanosleep(&moment, NULL);
+        refused = flock(o->folder, LOCK_EX | LOCK_NB);
+    }
+    return !refused;
 }
 
-/* So a plain file that nobody holds was left by a run that was killed. */
+/* Whether the plain file that is open still has that name; another run may have given it its own since it was opened. */
+static int is_still(const output *o, int file)
+{
+    struct stat held, named;
+    if (fstat(file, &held) || !S_ISREG(held.st_mode) || fstatat(o->folder, o->new_name, &named, AT_SYMLINK_NOFOLLOW)) return 0;
+    return held.st_dev == named.st_dev && held.st_ino == named.st_ino;
+}
+
+/* So a plain file that nobody holds may have been left by a run that was killed. */
 static void name_leftover(const output *o)
 {
-    struct stat found;
     int file = openat(o->folder, o->new_name, O_RDONLY | O_NONBLOCK | O_NOFOLLOW | O_CLOEXEC);
     if (file < 0) return;
-    if (!fstat(file, &found) && S_ISREG(found.st_mode) && !flock(file, LOCK_EX | LOCK_NB))
+    if (!flock(file, LOCK_EX | LOCK_NB) && is_still(o, file))
         say("%.*s%s: nobody writes it; a run that was killed may have left it", (int)(o->name - o->path), o->path, o->new_name);
     close(file);
 }

@@ -2,13 +2,11 @@
  * disk before it takes the old one's name. A signal that ends the run removes what is unfinished; what a killed run has left is named and left alone. */
 #ifndef OUTPUTS_H
 #define OUTPUTS_H
-#include <stddef.h>
-#include <stdint.h>
 #include <sys/stat.h>
 #include "frames.h"
 
 #define OUTPUTS_MOST 3
-#define NEW_NAME_ROOM 128
+#define NEW_NAME_ROOM 128 /* 100 bytes of the old name, a number and an ending */
 
 typedef struct {
     const char *path; /* `-` is standard output */

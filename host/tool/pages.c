@@ -8,7 +8,8 @@ static const struct { const char *topic, *text; } pages[] = {
 
 #define PAGES (sizeof pages / sizeof *pages)
 
-const char *page(const char *topic)
+/* The page of a topic, or of the whole tool where it is NULL; NULL where there is none. */
+static const char *page(const char *topic)
 {
     size_t k = 0;
     while (k < PAGES && strcmp(pages[k].topic, topic ? topic : "haze")) k++;
@@ -20,7 +21,7 @@ int print_page(const char *topic)
     const char *text = page(topic);
     if (!text) return say("there is no help on %s; `haze help` has the topics", topic);
     fputs(text, stdout);
-    return fflush(stdout) ? say("standard output: cannot be written") : 0;
+    return printed();
 }
 
 void usage_of(const char *topic, FILE *to)

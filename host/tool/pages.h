@@ -3,10 +3,7 @@
 #define PAGES_H
 #include <stdio.h>
 
-/* The page of a topic, or of the whole tool where it is NULL. Answers NULL where there is none. */
-const char *page(const char *topic);
-
-/* The page on standard output. Answers 0, or 1 when it cannot be written or there is none, which is said. */
+/* The page of a topic, or of the whole tool where it is NULL, on standard output. Answers 0, or 1 when it cannot be written or there is none, which is said. */
 int print_page(const char *topic);
 
 /* The first lines of a page, which say how the command is used, and where the rest is found. */

@@ -68,6 +68,8 @@ void progress(const char *format, ...)
     fflush(stderr);
 }
 
+int printed(void) { return fflush(stdout) ? say("standard output: cannot be written") : 0; }
+
 int is_standard(const char *path) { return !strcmp(path, "-"); }
 
 const char *input_name(const char *path) { return is_standard(path) ? "standard input" : path; }

@@ -9,6 +9,9 @@ int say(const char *format, ...) __attribute__((format(printf, 1, 2)));
 /* On a terminal alone: a line that the next one takes the place of. With no text it is wiped away. */
 void progress(const char *format, ...) __attribute__((format(printf, 1, 2)));
 
+/* Sees to it that what was printed is there. Answers 0, or 1 when it has said that it is not. */
+int printed(void);
+
 /* Whether a file word is `-`, which is standard input or standard output. */
 int is_standard(const char *path);
 

@@ -1,4 +1,4 @@
-/* The words behind a command: options that begin with `-`, then files, then settings and what is like them. What a command does not take is an error that is
+/* The words behind a command: options, which begin with `-` and may stand anywhere; files; and behind them settings and what is like them. What a command does not take is an error that is
  * said, and nothing is done. */
 #ifndef WORDS_H
 #define WORDS_H
