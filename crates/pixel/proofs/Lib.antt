@@ -2,3 +2,4 @@
 pub mod Sizes
 pub mod Signs
 pub mod Fractions
+pub mod Scales

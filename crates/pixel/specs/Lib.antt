@@ -1,2 +1,3 @@
 -- The definitions that the contracts of one pixel's arithmetic cite.
 pub mod Moments
+pub mod Over

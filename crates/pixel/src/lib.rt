@@ -3,7 +3,7 @@
 // (`bands`), halves in a search (`depth`), tenths of a number that is written (`fields`).
 ghost use mathlib.Core.Path.{_≡_};
 ghost use mathlib.Core.Bool.{true, false, cond};
-ghost use Prim.Native.Nat.{_+_, _*_, _/_, _^_, _≤_, _<_, min};
+ghost use Prim.Native.Nat.{_+_, _*_, _/_, _^_, _≤_, _<_, min, max};
 ghost use lib.ListN.{length};
 ghost use lib.IntN.{pos, natAbs};
 ghost use lib.Signed.{shrZ, ltZ};
@@ -13,6 +13,7 @@ ghost use Rattle.rules.specs.Transmission.{ratio, leastRatio, coarseOf, slopeOf
 ghost use Rattle.rules.specs.Picture.{rounded, recover, haze};
 ghost use Rattle.rules.specs.Buffers.{pixelAt};
 ghost use Rattle.pixel.specs.Moments.{Moments};
+ghost use Rattle.pixel.specs.Over.{Over};
 use numbers::lesser_u64;
 use rules::Rgb;
 
@@ -189,20 +190,27 @@ pub fn refined(n: u64, sa: i64, sb: i64, g: u64) -> u64
 
 // ---- from transmission to picture, and back
 
-// What gives the whole number nearest to n / t, halves up, when it is divided by 2·t.
-fn half_added(n: u32, t: u32) -> u32
-    requires { ⌜ (n ≤ 2550000) × (0 < t) × (t ≤ 10000) ⌝ }
-    ensures { λ r. ⌜ r ≡ 2 * n + t ⌝ }
+// The larger of two numbers.
+fn larger(x: u32, y: u32) -> u32
+    ensures { λ r. ⌜ r ≡ max x y ⌝ }
 {
-    2 * n + t
+    if x < y { y } else { x }
 }
 
-// How far a byte that is d from the light is from it without the haze, to the nearest level.
+// 10,000 / t in parts of which 2^23 make 1: the division that a pixel's three channels share. Below 39 it is as at 39, where one level
+// of distance from the light already becomes 256.
+fn scale(t: u32) -> u64
+    ensures { λ r. ⌜ Over 10000 (max t 39) 8388608 r ⌝ }
+{
+    83886080000 / (larger(t, 39) as u64) + 1
+}
+
+// How far a byte that is d from the light is from it without the haze, to the nearest level. What is past 255 may be any number past it.
 fn stretched(d: u32, t: u32) -> u32
     requires { ⌜ (d ≤ 255) × (0 < t) × (t ≤ 10000) ⌝ }
-    ensures { λ r. ⌜ r ≡ rounded (d * 10000) t ⌝ }
+    ensures { λ r. ⌜ (min r 256 ≡ min (rounded (d * 10000) t) 256) × (r ≤ 65536) ⌝ }
 {
-    half_added(d * 10000, t) / (2 * t)
+    (((d as u64) * scale(t) + 4194304) / 8388608) as u32
 }
 
 // A byte without the haze: byte i under light a at transmission t.

@@ -1,8 +1,7 @@
 -- `pixel::recovered` meets its contract: each branch is a law of the recovery in naturals. Assumes nothing.
-use Prim.Native.Nat.{_-_, _*_, _≤_, _<_}
+use Prim.Native.Nat.{_≤_, _<_}
 use native.Mathlib.Omega.{arith}
 use borrow.Author.Needs.{needs}
-use Rattle.rules.proofs.Nearest.{rounded-le}
 use Rattle.rules.proofs.Recover.{recover-up, recover-down}
 use Rattle.pixel.proofs.recovered.Statement.{statement}
 use Rattle.pixel.proofs.recovered.Tie as tie
@@ -14,9 +13,7 @@ stretched-requires : tie.Need-stretched-requires
 stretched-requires c κs = search needs
 
 add-v : tie.Need-add-v
-add-v c =
-    let d = c .before .before .args in
-    omega (arith, rounded-le ((d .i - d .a) * 10000) (d .t) (omega arith))
+add-v c = search needs
 
 cast-lesser-u64 : tie.Need-cast-lesser-u64
 cast-lesser-u64 c = search needs
