@@ -1,8 +1,10 @@
--- The sizes of a window's line, from the sizes of its sums; and that a held value is held. Assumes nothing.
-use Prim.Native.Nat.{ℕ, _≤_, _<_, _*_}
+-- The sizes of a window's line, from the sizes of its sums; and what holds of held values. Assumes nothing.
+use mathlib.Core.Path.{_≡_}
+use Prim.Native.Nat.{ℕ, _≤_, _<_, _*_, _/_, min}
 use lib.IntN.{ℤ, pos, negsuc, natAbs, _+ℤ_, _-ℤ_, _*ℤ_}
 use lib.Signed.{shrZ}
-use native.Mathlib.Nat.{mul-le-mul, mul-le-mul-left}
+use native.Mathlib.Nat.{mul-le-mul, mul-le-mul-left, zero-div, mul-div-cancel, le-div-iff-mul-le, div-lt-iff-lt-mul, div-div-eq-div-mul}
+use native.Mathlib.Decide.{decLe}
 use native.Mathlib.Omega.{arith}
 use Rattle.rules.specs.Transmission.{P, Q, slopeOf, refineOf, held}
 use Rattle.rules.proofs.Integers.{natAbs-*, natAbs--, natAbs-+, dif-le, shr-le}
@@ -58,3 +60,25 @@ held-le top (negsuc v) = omega arith
 
 pub refined-le : (n : ℕ) (sa sb : ℤ) (g : ℕ) → refineOf n sa sb g ≤ 10000
 refined-le n sa sb g = held-le 10000 (shrZ (sa *ℤ pos g +ℤ sb) (1024 * n))
+
+-- ---- and a value may be held before it is divided
+
+cut-first : (top m a : ℕ) → 0 < m → min a (top * m) / m ≡ min (a / m) top
+cut-first top m a h = go (decLe (top * m) a)
+  where
+    go : Dec (top * m ≤ a) → min a (top * m) / m ≡ min (a / m) top
+    go (yes l) =
+        let e : min a (top * m) ≡ top * m = omega arith in
+        rw (e, mul-div-cancel top h) (omega (arith, le-div-iff-mul-le {x = top} {y = a} h .1 l))
+    go (no l) =
+        let e : min a (top * m) ≡ a = omega arith in
+        rw e (omega (arith, div-lt-iff-lt-mul {x = a} {y = top} h .1 (omega arith)))
+
+held-first : (top m : ℕ) (v : ℤ) → 0 < m → held (top * m) v / m ≡ held top (shrZ v m)
+held-first top m (pos a) h = cut-first top m a h
+held-first top m (negsuc a) h = zero-div m
+
+pub refined-first : (n : ℕ) (sa sb : ℤ) (g : ℕ) → 0 < n → held (10240000 * n) (sa *ℤ pos g +ℤ sb) / 1024 / n ≡ refineOf n sa sb g
+refined-first n sa sb g h =
+    let e : 10240000 * n ≡ 10000 * (1024 * n) = omega arith in
+    rw (e, div-div-eq-div-mul) (held-first 10000 (1024 * n) (sa *ℤ pos g +ℤ sb) (omega arith))

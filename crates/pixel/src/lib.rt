@@ -170,22 +170,24 @@ pub fn offset(n: u64, sg: u64, st: u64, a: i64) -> i64
     floor_div((1024 * st) as i64 - a * (sg as i64), n)
 }
 
-// A number held into 0 .. 10,000.
-fn hold(v: i64) -> u64
-    ensures { λ r. ⌜ r ≡ held 10000 v ⌝ }
+// A number held into 0 .. top.
+fn hold(v: i64, top: u64) -> u64
+    ensures { λ r. ⌜ r ≡ held top v ⌝ }
 {
     if v < 0 {
         return 0;
     }
-    lesser_u64(v as u64, 10000)
+    lesser_u64(v as u64, top)
 }
 
-// The refined value of a pixel, from the sums of slopes and offsets over its window and its own guide.
+// The refined value of a pixel, from the sums of slopes and offsets over its window and its own guide. It is held before it is divided: the
+// division by 1024 is then a shift, and that by n is one of 32 bits.
 pub fn refined(n: u64, sa: i64, sb: i64, g: u64) -> u64
     requires { ⌜ (0 < n) × (n ≤ 14641) × (g ≤ 765) × (natAbs sa ≤ 7833600000 * n) × (natAbs sb ≤ 7000000000000 * n) ⌝ }
     ensures { λ r. ⌜ r ≡ refineOf n sa sb g ⌝ }
 {
-    hold(floor_div(sa * (g as i64) + sb, 1024 * n))
+    let v = hold(sa * (g as i64) + sb, 10240000 * n);
+    (((v / 1024) as u32) / (n as u32)) as u64
 }
 
 // ---- from transmission to picture, and back
