@@ -10,7 +10,7 @@ use lib.Dec.{ltb, leb, eqb}
 use Rattle.rules.specs.Light.{keep, best, brightest}
 use Rattle.light.specs.declared.Leader.{Leader}
 use Rattle.light.specs.declared.Cut.{Cut}
-use Rattle.light.specs.Steps.{upto, hits, admitted}
+use Rattle.light.specs.Steps.{upto, hits, next, admitted}
 use Rattle.light.proofs.Positions.{keep-more, hits-more}
 
 -- one more than its guide, 0 before the first
@@ -24,10 +24,6 @@ kept g l = record { place = brightest g l; top = tops g l }
 best-more : (g : ℕ → ℕ) (p o : ℕ) (l : List ℕ) → best g p (l ++ (o ∷ [])) ≡ cond (ltb (g (best g p l)) (g o)) o (best g p l)
 best-more g p o [] = refl
 best-more g p o (i ∷ l) = best-more g (cond (ltb (g p) (g i)) i p) o l
-
--- what becomes of the kept one at position o: as it is, or o in its place
-abbrev next : Leader → Bool → ℕ → ℕ → Leader
-next b ok o x = cond ok (cond (leb (b .top) x) (record { place = o; top = x + 1 }) b) b
 
 kept-one : (g : ℕ → ℕ) (o : ℕ) (l : List ℕ) → kept g (l ++ (o ∷ [])) ≡ next (kept g l) true o (g o)
 kept-one g o [] = rw (le-leb 0 (g o) (omega arith))

@@ -1,9 +1,9 @@
 -- What the parts of the light's search leave: the plane of dark values, the counts, the cutoff, the candidate that is kept. Assumes nothing.
 use mathlib.Core.Path.{_≡_}
-use mathlib.Core.Bool.{Bool, _&&_, _||_}
+use mathlib.Core.Bool.{Bool, cond, _&&_, _||_}
 use mathlib.Core.List.{List}
-use Prim.Native.Nat.{ℕ, _+_, _-_, _*_, _≤_, _<_}
-use lib.Dec.{ltb, eqb}
+use Prim.Native.Nat.{ℕ, _+_, _-_, _*_, _%_, _≤_, _<_}
+use lib.Dec.{ltb, leb, eqb}
 use lib.ListN.{getD, drop}
 use lib.IntN.{ℤ, pos, natAbs}
 use Rattle.rules.specs.Shape.{described, room}
@@ -16,6 +16,7 @@ use Rattle.rules.specs.Buffers.{pixelAt, pixels}
 use Rattle.rules.specs.Promise.{wiped}
 use Rattle.planes.specs.Plane.{SameFrom}
 use Rattle.light.specs.declared.Cut.{Cut}
+use Rattle.light.specs.declared.Leader.{Leader}
 
 -- ---- the plane of dark values, at the work area's start
 
@@ -42,8 +43,24 @@ upto n = from 0 n (λ p. p)
 abbrev pub hits : (ℕ → ℕ) → ℕ → ℕ → ℕ
 hits d n v = count (λ o. eqb v (d o)) (upto n)
 
+-- the first n entries are those of g
+abbrev pub Starts : (ℕ → ℕ) → ℕ → List ℕ → Type 0
+Starts g n l = (v : ℕ) → v < n → getD l v 0 ≡ g v
+
 abbrev pub Tallied : (ℕ → ℕ) → ℕ → List ℕ → Type 0
-Tallied d n l = (v : ℕ) → v < 256 → getD l v 0 ≡ hits d n v
+Tallied d n = Starts (hits d n) 256
+
+-- where position p is counted: in one of the four lanes of its value
+abbrev pub lane : (ℕ → ℕ) → ℕ → ℕ
+lane d p = 4 * d p + p % 4
+
+-- none of the counts is above the pixels of the largest frame
+abbrev pub Few : List ℕ → Type 0
+Few l = (v : ℕ) → v < 1024 → getD l v 0 ≤ 262144
+
+-- what the four lanes of v hold together
+abbrev pub joined : List ℕ → ℕ → ℕ
+joined l v = getD l (4 * v) 0 + getD l (4 * v + 1) 0 + getD l (4 * v + 2) 0 + getD l (4 * v + 3) 0
 
 -- ---- the cutoff
 
@@ -63,6 +80,10 @@ pub record CutAt (l : List ℕ) (m : ℕ) (r : Cut) : Type 0 where
 -- p is let in
 abbrev pub admitted : (ℕ → ℕ) → Cut → ℕ → Bool
 admitted d c p = ltb (c .value) (d p) || (eqb (c .value) (d p) && ltb (hits d p (c .value)) (c .ties))
+
+-- what becomes of the candidate that leads at position o, of guide x: as it is, or o in its place
+abbrev pub next : Leader → Bool → ℕ → ℕ → Leader
+next b ok o x = cond ok (cond (leb (b .top) x) (record { place = o; top = x + 1 }) b) b
 
 -- the position that is chosen
 pub record Chosen (frame : List ℕ) (work : List ℤ) (n : ℕ) (c : Cut) (r : ℕ) : Type 0 where

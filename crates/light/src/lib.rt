@@ -1,14 +1,14 @@
 // The ambient light of a frame: the dark values by the window minimum, a count for each of their 256 values, the cutoff, the brightest candidate.
 ghost use mathlib.Core.Path.{_≡_};
 ghost use mathlib.Core.Bool.{cond, _&&_, _||_};
-ghost use Prim.Native.Nat.{ℕ, _+_, _*_, _/_, _≤_, _<_, max};
-ghost use lib.Dec.{ltb, leb, eqb};
+ghost use Prim.Native.Nat.{_+_, _*_, _/_, _≤_, _<_, max};
+ghost use lib.Dec.{ltb, eqb};
 ghost use lib.ListN.{length, getD};
 ghost use lib.IntN.{pos};
-ghost use Rattle.rules.specs.Light.{darkest, lifted};
+ghost use Rattle.rules.specs.Light.{darkest, lifted, guide};
 ghost use Rattle.rules.specs.Buffers.{pixelAt};
 ghost use Rattle.rules.specs.Good.{AcceptedLight};
-ghost use Rattle.light.specs.Steps.{value, ByteEntries, Filled, Tallied, atLeast, CutAt, Chosen, DarkPlane, Finds};
+ghost use Rattle.light.specs.Steps.{value, ByteEntries, Filled, Starts, hits, Tallied, lane, Few, joined, atLeast, CutAt, next, Chosen, DarkPlane, Finds};
 use rules::Rgb;
 use rules::Settings;
 use rules::Size;
@@ -79,17 +79,49 @@ fn level(work: &[i64], p: usize) -> usize
     work[p] as usize
 }
 
-// How many of the first n entries have each value. The counts are 0 before.
-fn tally(work: &[i64], n: usize, counts: &mut [u32])
-    requires { ⌜ (n ≤ length (now work)) × (n ≤ 262144) × ByteEntries n (now work) × (length (now counts) ≡ 256) × ((v : ℕ) → v < 256 → getD (now counts) v 0 ≡ 0) ⌝ }
-    ensures { λ _. ⌜ Tallied (value (now (work .entry))) n (now (counts .exit)) ⌝ }
+// Each value has four lanes, and neighbours are counted in different ones, so that equal neighbours do not wait for each other. The counts are
+// 0 before.
+fn tally_apart(work: &[i64], n: usize, apart: &mut [u32])
+    requires { ⌜ (n ≤ length (now work)) × (n ≤ 262144) × ByteEntries n (now work) × (length (now apart) ≡ 1024) × Starts (λ v. 0) 1024 (now apart) ⌝ }
+    ensures { λ _. ⌜ Starts (hits (lane (value (now (work .entry)))) n) 1024 (now (apart .exit)) ⌝ }
 {
     let mut p = 0;
     while p < n {
-        let d = level(work, p);
-        counts[d] = counts[d] + 1;
+        let i = 4 * level(work, p) + p % 4;
+        apart[i] = apart[i] + 1;
         p += 1;
     }
+}
+
+// What the four lanes of v hold together.
+fn together(apart: &[u32], v: usize) -> u32
+    requires { ⌜ (length (now apart) ≡ 1024) × (v < 256) × Few (now apart) ⌝ }
+    ensures { λ r. ⌜ r ≡ joined (now (apart .entry)) v ⌝ }
+{
+    let i = 4 * v;
+    apart[i] + apart[i + 1] + apart[i + 2] + apart[i + 3]
+}
+
+// The count of each value, from its four lanes.
+fn join(apart: &[u32], counts: &mut [u32])
+    requires { ⌜ (length (now apart) ≡ 1024) × (length (now counts) ≡ 256) × Few (now apart) ⌝ }
+    ensures { λ _. ⌜ Starts (joined (now (apart .entry))) 256 (now (counts .exit)) ⌝ }
+{
+    let mut v = 0;
+    while v < 256 {
+        counts[v] = together(apart, v);
+        v += 1;
+    }
+}
+
+// How many of the first n entries have each value.
+fn tally(work: &[i64], n: usize, counts: &mut [u32])
+    requires { ⌜ (n ≤ length (now work)) × (n ≤ 262144) × ByteEntries n (now work) × (length (now counts) ≡ 256) ⌝ }
+    ensures { λ _. ⌜ Tallied (value (now (work .entry))) n (now (counts .exit)) ⌝ }
+{
+    let mut apart = [0; 1024];
+    tally_apart(work, n, &mut apart[..]);
+    join(&apart[..], counts);
 }
 
 // The greatest value that at least m pixels are at or above. 256 counts of 32 bits say at most 2^40.
@@ -132,14 +164,24 @@ fn seen_now(d: usize, cut: usize, seen: usize) -> usize
     if cut == d { seen + 1 } else { seen }
 }
 
-// A brighter candidate takes the lead, an equal one does not.
-fn better(b: Leader, ok: bool, p: usize, g: u64) -> Leader
-    requires { ⌜ g ≤ 765 ⌝ }
-    ensures { λ r. ⌜ r ≡ cond ok (cond (leb (b .top) g) (record { place = p; top = g + 1 }) b) b ⌝ }
+// The guide of the pixel at p.
+fn guide_at(frame: &[u8], p: usize) -> u64
+    requires { ⌜ 3 * p + 3 ≤ length (now frame) ⌝ }
+    ensures { λ r. ⌜ (r ≡ guide (pixelAt (now (frame .entry)) p)) × (r ≤ 765) ⌝ }
+{
+    let i = pixel::pixel_at(frame, p);
+    pixel::guide_of(i)
+}
+
+// A brighter candidate takes the lead, an equal one does not. The pixel at p is looked at only if it is a candidate.
+fn better(b: Leader, ok: bool, frame: &[u8], p: usize) -> Leader
+    requires { ⌜ 3 * p + 3 ≤ length (now frame) ⌝ }
+    ensures { λ r. ⌜ r ≡ next b ok p (guide (pixelAt (now (frame .entry)) p)) ⌝ }
 {
     if !ok {
         return b;
     }
+    let g = guide_at(frame, p);
     if b.top <= g {
         return Leader {
             place: p,
@@ -162,9 +204,7 @@ fn choose(frame: &[u8], work: &[i64], n: usize, cut: Cut) -> usize
     while p < n {
         let d = level(work, p);
         let ok = admits(d, value, seen, ties);
-        let i = pixel::pixel_at(frame, p);
-        let g = pixel::guide_of(i);
-        leader = better(leader, ok, p, g);
+        leader = better(leader, ok, frame, p);
         seen = seen_now(d, value, seen);
         p += 1;
     }

@@ -5,16 +5,23 @@ use Rattle.light.proofs.better.Statement.{statement}
 use Rattle.light.proofs.better.Tie as tie
 
 returns : tie.Need-returns
-returns c = rw (not-true (c .before .args .ok) (c .if1 .taken))
+returns c = rw (not-true (c .before .before .args .ok) (c .if1 .taken))
 
-add-t6 : tie.Need-add-t6
-add-t6 c = search needs
+guide-at-requires : tie.Need-guide-at-requires
+guide-at-requires c κs = search needs
+
+add-t7 : tie.Need-add-t7
+add-t7 c = search needs
 
 returns-2 : tie.Need-returns-2
-returns-2 c = rw (not-false (c .before .before .before .args .ok) (c .before .before .if1 .left), le-leb _ _ (c .if2 .taken))
+returns-2 c =
+    let g = c .before .before .guide-at .ensures .0 in
+    rw (not-false (c .before .before .before .before .before .args .ok) (c .before .before .before .if1 .left), ← g, le-leb _ _ (c .if2 .taken))
 
 returns-3 : tie.Need-returns-3
-returns-3 c = rw (not-false (c .before .before .before .args .ok) (c .before .before .if1 .left), lt-leb _ _ (c .if2 .left))
+returns-3 c =
+    let g = c .before .before .guide-at .ensures .0 in
+    rw (not-false (c .before .before .before .before .before .args .ok) (c .before .before .before .if1 .left), ← g, lt-leb _ _ (c .if2 .left))
 
 pub better-spec : {M : Type 1} → statement M
-better-spec = tie.close (tie.spec returns add-t6 returns-2 returns-3)
+better-spec = tie.close (tie.spec returns guide-at-requires add-t7 returns-2 returns-3)

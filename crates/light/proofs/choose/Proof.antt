@@ -31,40 +31,32 @@ level-requires c κs =
 admits-requires : tie.Need-admits-requires Inv-loop μ-loop
 admits-requires c κs = search needs
 
-pixel-at-requires : tie.Need-pixel-at-requires Inv-loop μ-loop
-pixel-at-requires c κs = omega (arith, c .before .before .loop-test .taken, c .before .before .before .before .before .pre .2)
-
-guide-of-requires : tie.Need-guide-of-requires Inv-loop μ-loop
-guide-of-requires c κs = search needs
-
 better-requires : tie.Need-better-requires Inv-loop μ-loop
-better-requires c κs = omega arith
+better-requires c κs = omega (arith, c .before .before .loop-test .taken, c .before .before .before .before .before .pre .2)
 
 seen-now-requires : tie.Need-seen-now-requires Inv-loop μ-loop
 seen-now-requires c κs =
-    let l = c .before .before .before .before .before .before .loop in
-    let s = c .before .before .before .before .before .before .before .before in
+    let l = c .before .before .before .before .loop in
+    let s = c .before .before .before .before .before .before in
     omega (arith, l .inv .1 .level, hits-le (steps.value (s .args .work .now)) (l .p) (s .args .cut .value), l .inv .0, s .pre .1)
 
 -- p is below n
-below : (c : tie.After-seen-now Inv-loop μ-loop) → c .before .before .before .before .before .before .before .loop .p < c .before .before .before .before .before .before .before .before .before .args .n
-below c = c .before .before .before .before .before .before .loop-test .taken
+below : (c : tie.After-seen-now Inv-loop μ-loop) → c .before .before .before .before .before .loop .p < c .before .before .before .before .before .before .before .args .n
+below c = c .before .before .before .before .loop-test .taken
 
 add-p : tie.Need-add-p Inv-loop μ-loop
-add-p c = omega (arith, below c, c .before .before .before .before .before .before .before .before .before .pre .1)
+add-p c = omega (arith, below c, c .before .before .before .before .before .before .before .pre .1)
 
 loop-less : tie.Need-loop-less Inv-loop μ-loop
 loop-less c = omega (arith, below c)
 
 loop-again : tie.Need-loop-again Inv-loop μ-loop
 loop-again c =
-    let l = c .before .before .before .before .before .before .before .loop in
-    let a = c .before .before .before .before .before .before .before .before .before .args in (
+    let l = c .before .before .before .before .before .loop in
+    let a = c .before .before .before .before .before .before .before .args in (
       omega (arith, below c),
       turn (λ o. guide (pixelAt (a .frame .now) o)) (steps.value (a .work .now)) (a .cut) (a .n) (l .p) (l .leader) _ (l .seen) _ _ _ _ (l .inv .1) (below c)
-          (c .before .before .before .before .before .level .ensures)
-          (c .before .before .guide-of .ensures .0 ∙ ap guide (c .before .before .before .pixel-at .ensures))
-          (c .before .before .before .before .admits .ensures) (c .before .better .ensures) (c .seen-now .ensures),
+          (c .before .before .before .level .ensures) refl (c .before .before .admits .ensures) (c .before .better .ensures) (c .seen-now .ensures),
     )
 
 returns : tie.Need-returns Inv-loop μ-loop
@@ -82,8 +74,6 @@ choose-spec =
     loop-holds
     level-requires
     admits-requires
-    pixel-at-requires
-    guide-of-requires
     better-requires
     seen-now-requires
     add-p

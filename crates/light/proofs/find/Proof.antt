@@ -3,7 +3,7 @@ use mathlib.Core.Path.{refl, _∙_}
 use Prim.Native.Nat.{_*_, _≤_}
 use native.Mathlib.Nat.{mul-pos}
 use native.Mathlib.Omega.{arith}
-use lib.ListN.{length, getD-replicate}
+use lib.ListN.{length}
 use borrow.Author.Needs.{needs}
 use Rattle.rules.specs.Shape.{described, room}
 use Rattle.rules.specs.Light.{m}
@@ -43,7 +43,7 @@ fits c =
 tally-requires : tie.Need-tally-requires
 tally-requires c κs =
     let b = c .before .before .before in
-    (fits b, b .before .before .before .before .pre .size .area, entries b, refl, λ v h. getD-replicate 256 v 0 0 h)
+    (fits b, b .before .before .before .before .pre .size .area, entries b, refl)
 
 slice-aggregate-cutoff : tie.Need-slice-aggregate-cutoff
 slice-aggregate-cutoff c = search needs
