@@ -6,7 +6,7 @@
 
 const view_kind view_map = {10000, 10000, LEVELS - 1, {0, 2500, 5000, 7500, 10000}, "transmission: 10000 lets all through"};
 
-/* With the usual omega a coarse transmission is at least 500 of 10000, which is depth 298; so nine tenths of the scale are for the depths up to 300. */
+/* With the usual omega a coarse transmission is at least 500 of 10000, which is depth 299; so nine tenths of the scale are for the depths up to 300. */
 const view_kind view_depth = {918, 300, (LEVELS - 1) * 9 / 10, {0, 100, 200, 300, 918}, "depth: 0 is nearest, 918 farthest"};
 
 static const colour ground = {255, 255, 255}, ink = {0, 0, 0};
