@@ -53,6 +53,20 @@ static int own_band(void) { return peer_band(W32, peer_map, w * h, 0, (uint32_t)
 static int lib_depths(void) { return haze_depths(w, h, map, w * h, depths, w * h); }
 static int own_depths(void) { return peer_depths(W32, peer_map, w * h, peer_depths_of, w * h); }
 
+#ifndef DIVISIONS
+/* The same library with the wiping left out (host/dry.awk). */
+__typeof__(haze_light) dry_haze_light;
+__typeof__(haze_clear) dry_haze_clear;
+__typeof__(haze_replace) dry_haze_replace;
+
+static int dry_light(void) { return dry_haze_light(w, h, &k, frame, FRAME, WORK, &a); }
+static int dry_clear(void) { return dry_haze_clear(w, h, &k, &a, frame, FRAME, map, w * h, picture, FRAME, WORK); }
+static int dry_replace(void)
+{
+    return dry_haze_replace(w, h, &k, &a, &rect, pixels, sizeof pixels, frame, FRAME, map, w * h, picture, FRAME, WORK);
+}
+#endif
+
 /* A PPM file of the frame, written and read; beside them the pixels copied, since no peer has files. */
 static uint8_t file[3 * MOST + sizeof "P6\n1024 1024\n255\n"], loaded[3 * MOST], copied[3 * MOST];
 static uint64_t loaded_w, loaded_h;
@@ -193,14 +207,18 @@ static void calls(void)
     title("512x512, s 7, r 30");
     prepare(512, 7, 30);
     line("light", lib_light, own_light);
+    line("  no wipe", dry_light, own_light);
     clear = line("clear", lib_clear, own_clear);
+    line("  no wipe", dry_clear, own_clear);
     line("haze", lib_add, own_add);
     line("band, all rows", lib_band, own_band);
     line("depths", lib_depths, own_depths);
     rect.column = rect.row = 240;
     middle = line("replace 32x32, middle", lib_replace, own_replace);
+    line("  no wipe", dry_replace, own_replace);
     rect.column = rect.row = 0;
     line("replace 32x32, corner", lib_replace, own_replace);
+    line("  no wipe", dry_replace, own_replace);
     measure(wipe, wipe);
     printf("replace in the middle is %.2f of a clear; wiping the work area, which the peer has not, is %.3f ms of each call that is lent one\n",
            middle / clear, lib_best);

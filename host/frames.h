@@ -33,8 +33,8 @@ static inline uint64_t with_ends(uint64_t lo, uint64_t hi)
 
 static inline uint8_t byte_held(int64_t v) { return (uint8_t)(v < 0 ? 0 : v > 255 ? 255 : v); }
 
-/* A frame of w by h: noise, a haze that thickens upwards over blocks of colour, few colours, near black, or near white. */
-enum { NOISE, HAZY, FEW, BLACK, WHITE };
+/* A frame of w by h: noise, a haze that thickens upwards over blocks of colour, few colours, near black, near white, or black and white. */
+enum { NOISE, HAZY, FEW, BLACK, WHITE, TWO };
 
 static inline void paint_as(uint64_t kind, uint8_t *frame, uint64_t w, uint64_t h)
 {
@@ -50,6 +50,7 @@ static inline void paint_as(uint64_t kind, uint8_t *frame, uint64_t w, uint64_t 
                 else if (kind == HAZY) v = (int64_t)(coarse % 256) + ((int64_t)(h - y) * deep) / (int64_t)h + (int64_t)(fine % 9) - 4;
                 else if (kind == FEW) v = (int64_t)(coarse % 3) * 127;
                 else if (kind == BLACK) v = (int64_t)(fine % 4);
+                else if (kind == TWO) v = mixed(seed ^ (y * 1024 + x)) % 2 ? 255 : 0;
                 else v = 255 - (int64_t)(fine % 4);
                 *frame++ = byte_held(v);
             }

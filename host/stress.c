@@ -309,7 +309,7 @@ static uint8_t band(void)
 
 /* ---- a good call's arguments */
 
-static void paint(uint8_t *frame, uint64_t w, uint64_t h) { paint_as(draw() % 5, frame, w, h); }
+static void paint(uint8_t *frame, uint64_t w, uint64_t h) { paint_as(draw() % 6, frame, w, h); }
 
 enum { SMALL, THIN, MIDDLE, LARGE };
 
@@ -317,6 +317,10 @@ static void good_size(int how)
 {
     now.w = how == SMALL ? from_to(1, 24) : how == THIN ? from_to(1, 6) : how == MIDDLE ? from_to(60, 200) : from_to(300, 512);
     now.h = how == SMALL ? from_to(1, 24) : how == THIN ? from_to(100, 1024) : how == MIDDLE ? from_to(60, 200) : from_to(300, 512);
+    if (how == LARGE && one_in(3)) {
+        now.w = 1024; /* the longest rows, and the longest columns */
+        now.h = from_to(200, 256);
+    }
     if (one_in(2)) {
         uint64_t w = now.w;
         now.w = now.h;

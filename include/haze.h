@@ -47,6 +47,10 @@ enum haze_count { HAZE_COUNT_MOST = ~static_cast<size_t>(0) };
 #endif
 #endif
 
+/* No call takes more of the stack than so many bytes, whatever the frame: haze_light 150 KB, haze_clear and haze_replace 180 KB, haze_depths 24 KB, the others
+ * less than 1 KB. */
+#define HAZE_STACK 200000
+
 enum haze_answer {
     HAZE_DONE = 0,
     HAZE_BAD_SIZE = 1,     /* w or h is not 1 to 1024, or w*h is above 262144 */
@@ -157,7 +161,7 @@ uint8_t haze_band(uint64_t w, uint64_t h, const uint16_t *map, size_t map_len, u
 /* Depths: relative depth from a map, in steps of one hundredth. A table starts at 1000000000, each entry is 99/100 of the one before, rounded down, up to and
  * with the first that is at most 100000: 918 entries. The depth of a map entry t is the first place, from 0, whose table entry is at most 100000*t, and 918 for
  * t = 0; so 10000 is 0, 9999 and 9900 are 1, and more transmission never means more depth. The depth of every entry goes into depths. Checks 1, 4 for either
- * length, 8. The call takes 24 KB of stack.
+ * length, 8.
  * Depth is read off the haze, and bright or grey things look like haze: a white post in near grass can read as farther off than the hill behind it, and snow
  * reads as far. A planner must never clear a path by it alone. */
 #define HAZE_DEEPEST 918 /* the depth of an entry of 0; no depth is more */

@@ -1,60 +1,201 @@
--- What is written by way of a box is what the whole frame has, and what the passes leave of the work area is wiped alike. Assumes nothing.
+-- What is written by way of a box and its lines is what the whole frame has, and what the passes leave of the work area is wiped alike. Assumes nothing.
 use mathlib.Core.Path.{_≡_, refl, ap, ap₂, _∙_, sym}
 use mathlib.Core.Bool.{Bool, true, false, cond}
-use mathlib.Core.List.{List, _++_}
-use Prim.Native.Nat.{ℕ, _+_, _-_, _*_, _≤_, _<_}
+use mathlib.Core.List.{List}
+use Prim.Native.Nat.{ℕ, _+_, _-_, _*_, _≤_, _<_, max}
 use native.Mathlib.Nat.{mul-le-mul}
 use native.Mathlib.Omega.{arith}
-use lib.IntN.{ℤ, pos}
-use lib.ListN.{length, drop, replicate, length-drop}
-use lib.Seq.{ext-getD, getD-drop}
+use lib.IntN.{ℤ}
 use Rattle.rules.specs.Shape.{Shape, room}
 use Rattle.rules.specs.declared.Settings.{Settings}
 use Rattle.rules.specs.declared.Rgb.{Rgb}
-use Rattle.rules.specs.Window.{Plane}
-use Rattle.rules.specs.Transmission.{refined}
-use Rattle.rules.specs.Picture.{cleared}
-use Rattle.rules.specs.Buffers.{pixels, bytes, entries, patch, reach}
+use Rattle.rules.specs.declared.Rect.{Rect}
+use Rattle.rules.specs.Window.{Plane, square, window}
+use Rattle.rules.specs.Light.{guide}
+use Rattle.rules.specs.Transmission.{Line, sample, fit, refine, refined}
+use Rattle.rules.specs.Picture.{recover3, cleared}
+use Rattle.rules.specs.Buffers.{pixels, values, bytes, entries, patch, near, mapWith, frameWith}
 use Rattle.rules.specs.Box.{part, Fits, Covers}
-use Rattle.rules.specs.Promise.{wiped}
-use Rattle.rules.proofs.Buffers.{entries-cong, bytes-cong}
-use Rattle.rules.proofs.Box.{Boxed, refined-box, cleared-box}
-use Rattle.planes.specs.Plane.{plane, SameFrom}
-use Rattle.writer.specs.Write.{unboxed, newMap, newPicture}
+use Rattle.rules.proofs.Buffers.{entries-cong, bytes-cong, values-entries}
+use Rattle.rules.proofs.Local.{window-local}
+use Rattle.rules.proofs.Near.{Near, near-yes, near-facts}
+use Rattle.rules.proofs.Box.{Boxed, window-box, fit-box}
+use Rattle.planes.specs.declared.View.{View}
+use Rattle.planes.specs.View.{whole, boxOf, rectOf, InPlane}
+use Rattle.planes.specs.Cells.{SameFrom}
+use Rattle.planes.specs.Stage.{Given, GivenView, Lined, shown}
+use Rattle.filter.specs.Fit.{fitted}
+use Rattle.writer.specs.Write.{refinedBy, recoveredBy}
+use Rattle.clearing.specs.Call.{wholeRect, shapeOf, viewOf, inView, Inside, Nested}
 
--- ---- the box law, over whole lists
+-- ---- the box law at a pixel of the frame that is covered
 
-module _ (z b : Shape) (top left : ℕ) (fits : Fits z b top left) (q : ℕ) (t : ℕ → ℕ → Bool) (covers : Covers z b top left q t) where
-  -- where the test holds, what is written in the box is the frame's
-  patch-box : {A B : Type 0} (F : Shape → Plane A → Plane B) → Boxed z b top left fits q F → (f : Plane A) (old : Plane B) (v u : ℕ) → v < z .h → u < z .w
-      → patch t (unboxed top left (F b (part top left f))) old v u ≡ patch t (F z f) old v u
-  unfolding patch
-  patch-box F law f old v u hv hu = go (t v u) refl
-    where
-      go : (c : Bool) → t v u ≡ c → cond c (F b (part top left f) (v - top) (u - left)) (old v u) ≡ cond c (F z f v u) (old v u)
-      go true e =
-          let r : top ≤ v = covers .row v u hv hu e in
-          let s : left ≤ u = covers .column v u hv hu e in
-          sym (law f (v - top) (u - left) (covers .sees v u hv hu e))
-          ∙ ap₂ (F z f) (let i : top + (v - top) ≡ v = omega arith in i) (let i : left + (u - left) ≡ u = omega arith in i)
-      go false e = refl
+covered : {A B : Type 0} (z b : Shape) (top left : ℕ) (fits : Fits z b top left) (q : ℕ) (t : ℕ → ℕ → Bool) → Covers z b top left q t
+    → (F : Shape → Plane A → Plane B) → Boxed z b top left fits q F → (f : Plane A) (v u : ℕ) → v < z .h → u < z .w → t v u ≡ true
+    → F b (part top left f) (v - top) (u - left) ≡ F z f v u
+covered z b top left fits q t covers F law f v u hv hu e =
+    let r : top ≤ v = covers .row v u hv hu e in
+    let s : left ≤ u = covers .column v u hv hu e in
+    sym (law f (v - top) (u - left) (covers .sees v u hv hu e))
+    ∙ ap₂ (F z f) (let i : top + (v - top) ≡ v = omega arith in i) (let i : left + (u - left) ≡ u = omega arith in i)
 
-module _ (z b : Shape) (top left : ℕ) (k : Settings) (a : Rgb) (frame : List ℕ) (fits : Fits z b top left) (t : ℕ → ℕ → Bool) (covers : Covers z b top left (reach k) t) where
-  pub map-box : (old : Plane ℕ) → entries z (patch t (newMap z b top left k a frame) old) ≡ entries z (patch t (refined z k a (pixels z frame)) old)
-  map-box old =
-      entries-cong z _ _
-      (patch-box z b top left fits (reach k) t covers (λ z. refined z k a) (refined-box z b top left fits k a) (pixels z frame) old)
+-- new values that agree where the test holds are written alike
+patch-cong : {A : Type 0} (t : ℕ → ℕ → Bool) (new new′ old : Plane A) (v u : ℕ) → (t v u ≡ true → new v u ≡ new′ v u) → patch t new old v u ≡ patch t new′ old v u
+unfolding patch
+patch-cong t new new′ old v u h = go (t v u) refl
+  where
+    go : (c : Bool) → t v u ≡ c → cond c (new v u) (old v u) ≡ cond c (new′ v u) (old v u)
+    go true e = h e
+    go false e = refl
 
-  pub picture-box : (old : Plane Rgb) → bytes z (patch t (newPicture z b top left k a frame) old) ≡ bytes z (patch t (cleared z k a (pixels z frame)) old)
-  picture-box old =
+-- what is written where the test holds
+patch-at : {A : Type 0} (t : ℕ → ℕ → Bool) (new old : Plane A) (v u : ℕ) → t v u ≡ true → patch t new old v u ≡ new v u
+unfolding patch
+patch-at t new old v u e = rw e
+
+module _ (z : Shape) (k : Settings) (a : Rgb) (g : Plane Rgb) (f p o : Rect) (n : Nested z k f p o) where
+  box-fits : Fits z (shapeOf f) (f .y) (f .x)
+  box-fits = record { rows = omega (arith, n .box .down); columns = omega (arith, n .box .east) }
+
+  part-fits : Fits z (shapeOf p) (p .y) (p .x)
+  part-fits = record { rows = omega (arith, n .box .down, n .part .down); columns = omega (arith, n .box .east, n .part .east) }
+
+  -- the lines of p, as they stand in the box
+  abbrev pub boxLines : Plane Line
+  boxLines = part (p .y - f .y) (p .x - f .x) (fit (shapeOf f) k a (part (f .y) (f .x) g))
+
+  -- are the frame's
+  lines-are : (y x : ℕ) → y < p .h → x < p .w → boxLines y x ≡ part (p .y) (p .x) (fit z k a g) y x
+  lines-are y x hy hx =
+      let i = n .part in
+      ap₂ (fit (shapeOf f) k a (part (f .y) (f .x) g)) (let e : p .y - f .y + y ≡ p .y + y - f .y = omega (arith, i .up) in e) (let e : p .x - f .x + x ≡ p .x + x - f .x = omega (arith, i .west) in e)
+      ∙ covered z (shapeOf f) (f .y) (f .x) box-fits (k .s + k .r) (near 0 p) (n .lines) (λ z. fit z k a) (fit-box z (shapeOf f) (f .y) (f .x) box-fits k a) g (p .y + y) (p .x + x)
+      (omega (arith, part-fits .rows)) (omega (arith, part-fits .columns))
+      (near-yes 0 p (p .y + y) (p .x + x) (record { top = omega arith; bottom = omega arith; left = omega arith; right = omega arith }))
+
+  abbrev to : View
+  to = viewOf z o
+
+  -- so the refined values by them are the frame's
+  entry-is : (v u : ℕ) → v < z .h → u < z .w → near 0 o v u ≡ true → refinedBy to (inView p o) (k .r) g boxLines v u ≡ refined z k a g v u
+  unfolding refined window
+  entry-is v u hv hu e =
+      let i = n .rect in
+      let m : Near 0 o v u = near-facts 0 o v u e in
+      let ey : o .y - p .y + (v - o .y) ≡ v - p .y = omega (arith, i .up, m .top) in
+      let ex : o .x - p .x + (u - o .x) ≡ u - p .x = omega (arith, i .west, m .left) in
+      ap (refine (guide (g v u)))
+      (ap₂ (square (p .w) (p .h) (k .r) boxLines) ey ex
+      ∙ window-local (shapeOf p) (k .r) boxLines (part (p .y) (p .x) (fit z k a g)) (v - p .y) (u - p .x) (omega (arith, i .up, i .down, m .top, m .bottom)) (omega (arith, i .west, i .east, m .left, m .right))
+      (λ y x w. lines-are y x (w .row) (w .column))
+      ∙ covered z (shapeOf p) (p .y) (p .x) part-fits (k .r) (near 0 o) (n .entries) (λ z. window z (k .r)) (window-box z (shapeOf p) (p .y) (p .x) part-fits (k .r)) (fit z k a g) v u hv hu e)
+
+  pub map-fresh : (old : Plane ℕ) → entries z (patch (near 0 o) (refinedBy to (inView p o) (k .r) g boxLines) old) ≡ entries z (patch (near 0 o) (refined z k a g) old)
+  map-fresh old = entries-cong z _ _ (λ v u hv hu. patch-cong (near 0 o) _ _ old v u (entry-is v u hv hu))
+
+  -- and the pixels recovered from a map that has them
+  pub picture-fresh : (m : List ℕ) (oldMap : Plane ℕ) (old : Plane Rgb) → m ≡ entries z (patch (near 0 o) (refined z k a g) oldMap)
+      → bytes z (patch (near 0 o) (recoveredBy a (k .t0) g (values z m)) old) ≡ bytes z (patch (near 0 o) (cleared z k a g) old)
+  unfolding cleared
+  picture-fresh m oldMap old e =
       bytes-cong z _ _
-      (patch-box z b top left fits (reach k) t covers (λ z. cleared z k a) (cleared-box z b top left fits k a) (pixels z frame) old)
+      (λ v u hv hu. patch-cong (near 0 o) _ _ old v u
+      (λ t. ap (λ (n : ℕ). recover3 a (g v u) (max n (k .t0)))
+      (ap (λ (l : List ℕ). values z l v u) e ∙ values-entries z _ v u hv hu ∙ patch-at (near 0 o) (refined z k a g) oldMap v u t)))
 
 -- ---- the work area
 
--- the box's planes are no larger than the frame's
-pub plane-le : (z b : Shape) (top left : ℕ) → Fits z b top left → 8 * plane (b .w) (b .h) ≤ room z
-plane-le z b top left fits =
-    let tall : b .h + 1 ≤ z .h + 1 = omega (arith, fits .rows) in
-    let wide : b .w + 1 ≤ z .w + 1 = omega (arith, fits .columns) in
-    omega (arith, mul-le-mul tall wide)
+-- a rectangle has no more pixels than the one that it lies in
+pub inside-area : (outer inner : Rect) → Inside outer inner → inner .w * inner .h ≤ outer .w * outer .h
+inside-area outer inner i =
+    let w : inner .w ≤ outer .w = omega (arith, i .west, i .east) in
+    let h : inner .h ≤ outer .h = omega (arith, i .up, i .down) in
+    mul-le-mul w h
+
+-- samples and lines have room in the frame's work area
+pub planes-le : (z : Shape) (f p : Rect) → Inside (wholeRect z) f → Inside f p → 2 * (f .w * f .h) + 2 * (p .w * p .h) ≤ room z
+planes-le z f p i j = omega (arith, inside-area (wholeRect z) f i, inside-area f p j)
+
+-- what two passes leave alone
+pub same-after : (l m n : List ℤ) (a b c : ℕ) → SameFrom l m a → SameFrom m n b → a ≤ c → b ≤ c → SameFrom l n c
+same-after l m n a b c s t h k = record { same = λ i e. t .same i (omega arith) ∙ s .same i (omega arith) }
+
+-- the lines that the filter fits to the samples of a box are the box's
+pub lines-fit : (l : List ℤ) (v p : View) (k : Settings) (a : Rgb) (g : Plane Rgb) → p .w ≡ v .wide → p .h ≡ v .tall
+    → Lined l (2 * (p .w * p .h)) (p .wide) (p .tall) (part (p .top) (p .left) (fitted (p .w) (p .h) (k .r) (k .e) (sample (boxOf v) k a g)))
+    → Lined l (2 * (v .wide * v .tall)) (p .wide) (p .tall) (part (p .top) (p .left) (fit (boxOf v) k a g))
+unfolding fit window
+lines-fit l v p k a g ew eh h = rw (ew, eh) at h
+
+-- ---- what the passes ask for and leave, in words of the rectangles
+
+module _ (z : Shape) (k : Settings) (a : Rgb) (frame : List ℕ) (given : Given z z 0 0 k a frame) (f p o : Rect) (n : Nested z k f p o) where
+  frame-view : (c : Rect) → Inside (wholeRect z) c → InPlane (viewOf z c)
+  frame-view c i = record {
+    short = given .size .wide;
+    low = given .size .tall;
+    area = given .size .area;
+    fits = record { rows = omega (arith, i .down); columns = omega (arith, i .east) };
+    across = i .across;
+    down = i .tall;
+  }
+
+  -- a rectangle in another that lies in the frame
+  inner-view : (outer inner : Rect) → Inside (wholeRect z) outer → Inside outer inner → InPlane (inView outer inner)
+  inner-view outer inner i j = record {
+    short = omega (arith, i .east, given .size .wide);
+    low = omega (arith, i .down, given .size .tall);
+    area = omega (arith, inside-area (wholeRect z) outer i, given .size .area);
+    fits = record { rows = omega (arith, j .up, j .down); columns = omega (arith, j .west, j .east) };
+    across = j .across;
+    down = j .tall;
+  }
+
+  part-whole : Inside (wholeRect z) p
+  part-whole =
+      record { up = omega arith; down = omega (arith, n .box .down, n .part .down); west = omega arith; east = omega (arith, n .box .east, n .part .east); across = n .part .across; tall = n .part .tall }
+
+  rect-whole : Inside (wholeRect z) o
+  rect-whole =
+      record { up = omega arith; down = omega (arith, part-whole .down, n .rect .down); west = omega arith; east = omega (arith, part-whole .east, n .rect .east); across = n .rect .across; tall = n .rect .tall }
+
+  pub box-view : InPlane (viewOf z f)
+  box-view = frame-view f (n .box)
+
+  pub rect-view : InPlane (viewOf z o)
+  rect-view = frame-view o rect-whole
+
+  pub lines-view : InPlane (inView f p)
+  lines-view = inner-view f p (n .box) (n .part)
+
+  pub entries-view : InPlane (inView p o)
+  entries-view = inner-view p o part-whole (n .rect)
+
+  pub box-given : GivenView (viewOf z f) k a frame
+  box-given = record {
+    size = given .size;
+    settings = given .settings;
+    light = given .light;
+    bytes = given .bytes;
+    fits = box-view .fits;
+    across = n .box .across;
+    down = n .box .tall;
+  }
+
+  -- the lines that the passes leave are those of p in the box
+  pub lines-left : (l : List ℤ) (v w : View) → v ≡ viewOf z f → w ≡ inView f p
+      → Lined l (2 * (v .wide * v .tall)) (w .wide) (w .tall) (part (w .top) (w .left) (fit (boxOf v) k a (shown v frame)))
+      → Lined l (2 * (f .w * f .h)) (p .w) (p .h) (boxLines z k a (pixels z frame) f p o n)
+  lines-left l v w ev ew h = rw (ev, ew) at h
+
+  -- the map that is written is the frame's
+  pub map-left : (to v : View) → to ≡ viewOf z o → v ≡ inView p o → (old new : List ℕ)
+      → new ≡ mapWith (whole to) (near 0 (rectOf to)) (refinedBy to v (k .r) (pixels (whole to) frame) (boxLines z k a (pixels z frame) f p o n)) old
+      → new ≡ mapWith z (near 0 o) (refined z k a (pixels z frame)) old
+  map-left to v et ev old new h = (rw (et, ev) at h) ∙ map-fresh z k a (pixels z frame) f p o n (values z old)
+
+  -- and so is the picture
+  pub picture-left : (to : View) → to ≡ viewOf z o → (oldMap map old new : List ℕ) → map ≡ mapWith z (near 0 o) (refined z k a (pixels z frame)) oldMap
+      → new ≡ frameWith (whole to) (near 0 (rectOf to)) (recoveredBy a (k .t0) (pixels (whole to) frame) (values (whole to) map)) old
+      → new ≡ frameWith z (near 0 o) (cleared z k a (pixels z frame)) old
+  picture-left to et oldMap map old new em h = (rw et at h) ∙ picture-fresh z k a (pixels z frame) f p o n map (values z oldMap) (pixels z old) em

@@ -1,8 +1,8 @@
--- The two rectangles that are brought up to date: the whole frame, and what is near the new pixels, in a box that sees far enough. Assumes nothing.
+-- The rectangles that are brought up to date: the whole frame, and the new pixels' grown ones, which see far enough in one another. Assumes nothing.
 use mathlib.Core.Path.{_≡_, ap, _∙_, sym}
 use mathlib.Core.Bool.{Bool, true, cond}
 use mathlib.Core.List.{List}
-use Prim.Native.Nat.{ℕ, _+_, _-_, _*_, min, _≤_, _<_}
+use Prim.Native.Nat.{ℕ, _+_, _*_, _≤_, _<_}
 use native.Mathlib.Nat.{sub-zero}
 use native.Mathlib.Omega.{arith}
 use lib.ListN.{length}
@@ -11,15 +11,14 @@ use Rattle.rules.specs.declared.Settings.{Settings}
 use Rattle.rules.specs.declared.Rgb.{Rgb}
 use Rattle.rules.specs.declared.Rect.{Rect}
 use Rattle.rules.specs.Window.{Plane}
-use Rattle.rules.specs.Buffers.{bytes, entries, near, patch}
-use Rattle.rules.specs.Good.{GoodRect}
+use Rattle.rules.specs.Buffers.{bytes, entries, near, patch, reach}
+use Rattle.rules.specs.Good.{GoodSize, GoodRect}
 use Rattle.rules.specs.Box.{Covers}
 use Rattle.rules.proofs.Buffers.{entries-cong, bytes-cong}
 use Rattle.rules.proofs.Near.{Near, near-yes, near-facts, same-test}
-use Rattle.rules.proofs.Box.{whole-sees, grown-fits, grown-sees}
+use Rattle.rules.proofs.Box.{whole-sees}
 use Rattle.planes.specs.Stage.{Given}
-use Rattle.writer.specs.Write.{Target}
-use Rattle.clearing.specs.Call.{grownRect}
+use Rattle.clearing.specs.Call.{wholeRect, shapeOf, grownRect, Inside, Nested}
 
 -- two tests that agree in the frame write the same
 patch-test : {A : Type 0} (s t : ℕ → ℕ → Bool) (new old : Plane A) (v u : ℕ) → s v u ≡ t v u → patch s new old v u ≡ patch t new old v u
@@ -28,38 +27,52 @@ patch-test s t new old v u e = ap (λ (b : Bool). cond b (new v u) (old v u)) e
 
 -- ---- the whole frame
 
-abbrev pub whole : Shape → Rect
-whole z = record { x = 0; y = 0; w = z .w; h = z .h }
-
-near-whole : (z : Shape) (v u : ℕ) → v < z .h → u < z .w → near 0 (whole z) v u ≡ true
-near-whole z v u hv hu = near-yes 0 (whole z) v u (record { top = omega arith; bottom = omega arith; left = omega arith; right = omega arith })
+near-whole : (z : Shape) (v u : ℕ) → v < z .h → u < z .w → near 0 (wholeRect z) v u ≡ true
+near-whole z v u hv hu = near-yes 0 (wholeRect z) v u (record { top = omega arith; bottom = omega arith; left = omega arith; right = omega arith })
 
 module _ (z : Shape) where
-  pub covers-all : (q : ℕ) → Covers z z 0 0 q (near 0 (whole z))
+  covers-all : (q : ℕ) → Covers z z 0 0 q (near 0 (wholeRect z))
   covers-all q = record {
     row = λ v u hv hu e. omega arith;
     column = λ v u hv hu e. omega arith;
     sees = λ v u hv hu e. simp sub-zero (whole-sees z q v u hv hu);
   }
 
-  pub entries-all : (new old : Plane ℕ) → entries z (patch (near 0 (whole z)) new old) ≡ entries z new
+  inside-self : (c : Rect) → 0 < c .w → 0 < c .h → Inside c c
+  inside-self c w h = record { up = omega arith; down = omega arith; west = omega arith; east = omega arith; across = w; tall = h }
+
+  pub nested-all : (k : Settings) → GoodSize z → Nested z k (wholeRect z) (wholeRect z) (wholeRect z)
+  nested-all k g =
+      let i = inside-self (wholeRect z) (g .across) (g .down) in
+      record { box = i; part = i; rect = i; lines = covers-all (k .s + k .r); entries = covers-all (k .r) }
+
+  pub entries-all : (new old : Plane ℕ) → entries z (patch (near 0 (wholeRect z)) new old) ≡ entries z new
   unfolding patch
-  entries-all new old = entries-cong z _ _ (λ v u hv hu. patch-test (near 0 (whole z)) (λ v u. true) new old v u (near-whole z v u hv hu))
+  entries-all new old = entries-cong z _ _ (λ v u hv hu. patch-test (near 0 (wholeRect z)) (λ v u. true) new old v u (near-whole z v u hv hu))
 
-  pub bytes-all : (new old : Plane Rgb) → bytes z (patch (near 0 (whole z)) new old) ≡ bytes z new
+  pub bytes-all : (new old : Plane Rgb) → bytes z (patch (near 0 (wholeRect z)) new old) ≡ bytes z new
   unfolding patch
-  bytes-all new old = bytes-cong z _ _ (λ v u hv hu. patch-test (near 0 (whole z)) (λ v u. true) new old v u (near-whole z v u hv hu))
+  bytes-all new old = bytes-cong z _ _ (λ v u hv hu. patch-test (near 0 (wholeRect z)) (λ v u. true) new old v u (near-whole z v u hv hu))
 
-  pub whole-target : (map picture : List ℕ) → length map ≡ z .w * z .h → length picture ≡ 3 * (z .w * z .h) → Target z z 0 0 (whole z) map picture
-  whole-target map picture m p =
-      record { up = omega arith; down = omega arith; west = omega arith; east = omega arith; entries = m; bytes = p }
+-- ---- the rectangle c, grown
 
--- ---- what is near the rectangle c, within q
+-- a rectangle that is grown by n, however the code comes by that number
+pub grown-by : (z : Shape) (c f : Rect) {m : ℕ} (n : ℕ) → f ≡ grownRect z m c → m ≡ n → f ≡ grownRect z n c
+grown-by z c f n e h = e ∙ ap (λ (k : ℕ). grownRect z k c) h
 
--- in the frame, that is the rectangle grown by q
-module _ (z : Shape) (q : ℕ) (c : Rect) (i : GoodRect z c) where
-  near-grown : (v u : ℕ) → v < z .h → u < z .w → near 0 (grownRect z q c) v u ≡ near q c v u
-  near-grown v u hv hu =
+module _ (z : Shape) (c : Rect) (i : GoodRect z c) where
+  -- it lies in the frame, and in itself grown farther
+  grown-whole : (q : ℕ) → Inside (wholeRect z) (grownRect z q c)
+  grown-whole q =
+      record { up = omega arith; down = omega (arith, i .down); west = omega arith; east = omega (arith, i .across); across = omega (arith, i .some-w, i .across); tall = omega (arith, i .some-h, i .down) }
+
+  grown-inside : (q m : ℕ) → q ≤ m → Inside (grownRect z m c) (grownRect z q c)
+  grown-inside q m l =
+      record { up = omega arith; down = omega (arith, i .down); west = omega arith; east = omega (arith, i .across); across = omega (arith, i .some-w, i .across); tall = omega (arith, i .some-h, i .down) }
+
+  -- in the frame, what is near c within q is what lies in it grown by q
+  near-grown : (q v u : ℕ) → v < z .h → u < z .w → near 0 (grownRect z q c) v u ≡ near q c v u
+  near-grown q v u hv hu =
       same-test (near 0 (grownRect z q c) v u) (near q c v u)
       (λ e.
       let n : Near 0 (grownRect z q c) v u = near-facts 0 (grownRect z q c) v u e in
@@ -68,58 +81,44 @@ module _ (z : Shape) (q : ℕ) (c : Rect) (i : GoodRect z c) where
       let n : Near q c v u = near-facts q c v u e in
       near-yes 0 (grownRect z q c) v u (record { top = omega (arith, n .top); bottom = omega (arith, n .bottom); left = omega (arith, n .left); right = omega (arith, n .right) }))
 
--- one line of the box: what is written starts and ends in it, and the box has a pixel
-low : (p q : ℕ) → p - 2 * q ≤ p - q
-low p q = omega arith
-
-high : (p n q end : ℕ) → p + n ≤ end → p - q + (min end (p + n + q) - (p - q)) ≤ p - 2 * q + (min end (p + n + 2 * q) - (p - 2 * q))
-high p n q end l = omega arith
-
-some : (p n q end : ℕ) → 0 < n → p + n ≤ end → 0 < min end (p + n + q) - (p - q)
-some p n q end s l = omega arith
-
--- a rectangle that is grown by n, however the code comes by that number
-pub grown-by : (z : Shape) (c f : Rect) {m : ℕ} (n : ℕ) → f ≡ grownRect z m c → m ≡ n → f ≡ grownRect z n c
-grown-by z c f n e h = e ∙ ap (λ (k : ℕ). grownRect z k c) h
-
--- f is the box, o is what is written
-module _ (z : Shape) (q : ℕ) (c : Rect) (i : GoodRect z c) (f o : Rect) (ef : f ≡ grownRect z (2 * q) c) (eo : o ≡ grownRect z q c) where
-  abbrev box : Shape
-  box = record { w = f .w; h = f .h }
-
-  pub grown-given : (k : Settings) (a : Rgb) (frame frame′ : List ℕ) → length frame′ ≡ length frame → Given z z 0 0 k a frame → Given z box (f .y) (f .x) k a frame′
-  grown-given k a frame frame′ e g = record {
-    size = g .size;
-    settings = g .settings;
-    light = g .light;
-    bytes = e ∙ g .bytes;
-    fits = rw ef (grown-fits z q c (i .across) (i .down));
-    across = rw ef (some (c .x) (c .w) (2 * q) (z .w) (i .some-w) (i .across));
-    down = rw ef (some (c .y) (c .h) (2 * q) (z .h) (i .some-h) (i .down));
+  -- grown by q, it sees as far as m in itself grown by as much more
+  grown-covers : (q m n : ℕ) → q + m ≤ n → Covers z (shapeOf (grownRect z n c)) (grownRect z n c .y) (grownRect z n c .x) m (near 0 (grownRect z q c))
+  grown-covers q m n l = record {
+    row = λ v u hv hu e. let h : Near q c v u = facts v u hv hu e in omega (arith, h .top);
+    column = λ v u hv hu e. let h : Near q c v u = facts v u hv hu e in omega (arith, h .left);
+    sees = λ v u hv hu e. let h : Near q c v u = facts v u hv hu e in record {
+      row = omega (arith, h .top, h .bottom, i .down);
+      column = omega (arith, h .left, h .right, i .across);
+      up = omega (arith, h .top);
+      down = omega (arith, h .bottom, i .down);
+      west = omega (arith, h .left);
+      east = omega (arith, h .right, i .across);
+    };
   }
+    where
+      facts : (v u : ℕ) → v < z .h → u < z .w → near 0 (grownRect z q c) v u ≡ true → Near q c v u
+      facts v u hv hu e = near-facts q c v u (sym (near-grown q v u hv hu) ∙ e)
 
-  pub grown-target : (map picture : List ℕ) → length map ≡ z .w * z .h → length picture ≡ 3 * (z .w * z .h) → Target z box (f .y) (f .x) o map picture
-  grown-target map picture m p = record {
-    up = rw (ef, eo) (low (c .y) q);
-    down = rw (ef, eo) (high (c .y) (c .h) q (z .h) (i .down));
-    west = rw (ef, eo) (low (c .x) q);
-    east = rw (ef, eo) (high (c .x) (c .w) q (z .w) (i .across));
-    entries = m;
-    bytes = p;
-  }
-
-  test-is : (v u : ℕ) → v < z .h → u < z .w → near 0 o v u ≡ near q c v u
-  test-is v u hv hu = rw eo (near-grown z q c i v u hv hu)
-
-  pub grown-covers : Covers z box (f .y) (f .x) q (near 0 o)
-  grown-covers = rw ef (record {
-    row = λ v u hv hu e. let n : Near q c v u = near-facts q c v u (sym (test-is v u hv hu) ∙ e) in omega (arith, n .top);
-    column = λ v u hv hu e. let n : Near q c v u = near-facts q c v u (sym (test-is v u hv hu) ∙ e) in omega (arith, n .left);
-    sees = λ v u hv hu e. grown-sees z q c (i .across) (i .down) v u hv hu (sym (test-is v u hv hu) ∙ e);
+  pub nested-grown : (k : Settings) (f p o : Rect) → f ≡ grownRect z (2 * reach k) c → p ≡ grownRect z (reach k + k .r) c → o ≡ grownRect z (reach k) c → Nested z k f p o
+  nested-grown k f p o ef ep eo = rw (ef, ep, eo) (record {
+    box = grown-whole (2 * reach k);
+    part = grown-inside (reach k + k .r) (2 * reach k) (omega arith);
+    rect = grown-inside (reach k) (reach k + k .r) (omega arith);
+    lines = grown-covers (reach k + k .r) (k .s + k .r) (2 * reach k) (omega arith);
+    entries = grown-covers (reach k) (k .r) (reach k + k .r) (omega arith);
   })
 
-  pub grown-entries : (new old : Plane ℕ) → entries z (patch (near 0 o) new old) ≡ entries z (patch (near q c) new old)
-  grown-entries new old = entries-cong z _ _ (λ v u hv hu. patch-test (near 0 o) (near q c) new old v u (test-is v u hv hu))
+  module _ (q : ℕ) (o : Rect) (eo : o ≡ grownRect z q c) where
+    test-is : (v u : ℕ) → v < z .h → u < z .w → near 0 o v u ≡ near q c v u
+    test-is v u hv hu = rw eo (near-grown q v u hv hu)
 
-  pub grown-bytes : (new old : Plane Rgb) → bytes z (patch (near 0 o) new old) ≡ bytes z (patch (near q c) new old)
-  grown-bytes new old = bytes-cong z _ _ (λ v u hv hu. patch-test (near 0 o) (near q c) new old v u (test-is v u hv hu))
+    pub grown-entries : (new old : Plane ℕ) → entries z (patch (near 0 o) new old) ≡ entries z (patch (near q c) new old)
+    grown-entries new old = entries-cong z _ _ (λ v u hv hu. patch-test (near 0 o) (near q c) new old v u (test-is v u hv hu))
+
+    pub grown-bytes : (new old : Plane Rgb) → bytes z (patch (near 0 o) new old) ≡ bytes z (patch (near q c) new old)
+    grown-bytes new old = bytes-cong z _ _ (λ v u hv hu. patch-test (near 0 o) (near q c) new old v u (test-is v u hv hu))
+
+-- a frame of the same length is given as well
+pub given-after : (z : Shape) (k : Settings) (a : Rgb) (frame frame′ : List ℕ) → length frame′ ≡ length frame → Given z z 0 0 k a frame → Given z z 0 0 k a frame′
+given-after z k a frame frame′ e g =
+    record { size = g .size; settings = g .settings; light = g .light; bytes = e ∙ g .bytes; fits = g .fits; across = g .across; down = g .down }

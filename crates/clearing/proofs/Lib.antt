@@ -1,3 +1,3 @@
--- Laws of a box that is brought up to date, and of the rectangles that Replace grows.
-pub mod Fresh
+-- Laws of the rectangles, and of what is written by way of a box.
 pub mod Grown
+pub mod Fresh

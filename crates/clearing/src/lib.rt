@@ -1,57 +1,159 @@
-// Clear and Replace, of calls that are not refused. Both bring a rectangle of map and picture up to date by way of a box of the frame: Clear the whole frame, Replace what is within
-// s + 2r of the new pixels, by way of a box that reaches as far again.
+// Clear and Replace, of calls that are not refused. Both bring a rectangle of map and picture up to date by way of the lines of a part of the frame, and these by way of a box: Clear
+// the whole frame; Replace what is within s + 2r of the new pixels, by the lines within s + 3r and a box that reaches 2s + 4r.
 ghost use mathlib.Core.Path.{_≡_};
-ghost use Prim.Native.Nat.{_*_, _≤_};
-ghost use lib.ListN.{length};
+ghost use Prim.Native.Nat.{_+_, _*_, _≤_};
+ghost use lib.ListN.{length, getD};
 ghost use Rattle.rules.specs.Shape.{described, room};
-ghost use Rattle.rules.specs.Buffers.{pixels, mapOf, pictureOf, mapWith, frameWith, near, reach};
-ghost use Rattle.rules.specs.Box.{Covers};
+ghost use Rattle.rules.specs.Transmission.{fit as lined};
+ghost use Rattle.rules.specs.Buffers.{pixels, mapOf, pictureOf, mapWith, frameWith, near, pasted};
+ghost use Rattle.rules.specs.Box.{part};
 ghost use Rattle.rules.specs.Good.{GoodRect};
 ghost use Rattle.rules.specs.Setup.{handed};
 ghost use Rattle.rules.specs.Promise.{wiped, lentOf, afterClear, afterReplace};
-ghost use Rattle.planes.specs.Stage.{Given};
-ghost use Rattle.writer.specs.Write.{Target};
-ghost use Rattle.clearing.specs.Call.{Loan, grownRect};
+ghost use Rattle.planes.specs.View.{InPlane, boxOf};
+ghost use Rattle.planes.specs.Cells.{SameFrom};
+ghost use Rattle.planes.specs.Stage.{Given, GivenView, Lined, shown};
+ghost use Rattle.writer.specs.Run.{Run};
+ghost use Rattle.clearing.specs.Call.{Loan, Inside, Nested, grownRect, inView, viewOf};
 use coarse::prepare;
-use filter::filter;
+use filter::fit;
 use numbers::cut;
 use numbers::less;
+use planes::View;
 use planes::wipe;
 use rules::Rect;
 use rules::Rgb;
 use rules::Settings;
 use rules::Size;
-use writer::paste;
-use writer::write;
+use writer::write_map;
+use writer::write_picture;
 
-// The rectangle o of map and picture, by way of the box, as a clearing of the whole frame has it. The work area may hold anything, and is left wiped.
+// ---- rectangles
+
+// A rectangle of the frame as a box in it.
+fn view(z: Size, c: Rect) -> View
+    ensures { λ r. ⌜ r ≡ viewOf (described z) c ⌝ }
+{
+    let w = z.w;
+    let h = z.h;
+    View {
+        w: w,
+        h: h,
+        top: c.y,
+        left: c.x,
+        wide: c.w,
+        tall: c.h,
+    }
+}
+
+// A rectangle as a box in another that holds it.
+fn within(outer: Rect, inner: Rect) -> View
+    requires { ⌜ Inside outer inner ⌝ }
+    ensures { λ r. ⌜ r ≡ inView outer inner ⌝ }
+{
+    View {
+        w: outer.w,
+        h: outer.h,
+        top: inner.y - outer.y,
+        left: inner.x - outer.x,
+        wide: inner.w,
+        tall: inner.h,
+    }
+}
+
+// The rectangle, grown by q rows and columns and cut at the frame.
+fn grow(z: Size, c: Rect, q: usize) -> Rect
+    requires { ⌜ GoodRect (described z) c ⌝ }
+    ensures { λ r. ⌜ r ≡ grownRect (described z) q c ⌝ }
+{
+    let x = less(c.x, q);
+    let y = less(c.y, q);
+    let right = cut(c.x + c.w, q, z.w);
+    let low = cut(c.y + c.h, q, z.h);
+    Rect {
+        x: x,
+        y: y,
+        w: right - x,
+        h: low - y,
+    }
+}
+
+// n bytes of src, from a place on, go to the front of the part.
+fn copy_run(part: &mut [u8], src: &[u8], from: usize, n: usize)
+    requires { ⌜ (n ≤ length (now part)) × (from + n ≤ length (now src)) ⌝ }
+    ensures { λ _. ⌜ Run (λ i. getD (now (src .entry)) i 0) from n (now (part .entry)) (now (part .exit)) ⌝ }
+{
+    let mut p = 0;
+    while p < n {
+        part[p] = src[from + p];
+        p += 1;
+    }
+}
+
+// The new pixels go into the frame at their rectangle.
+fn paste(frame: &mut [u8], z: Size, c: Rect, new: &[u8])
+    requires { ⌜ GoodRect (described z) c × (length (now frame) ≡ 3 * (z .w * z .h)) × (length (now new) ≡ 3 * (c .w * c .h)) ⌝ }
+    ensures { λ _. ⌜ now (frame .exit) ≡ pasted (described z) c (now (new .entry)) (now (frame .entry)) ⌝ }
+{
+    let h = c.h;
+    let mut j = 0;
+    while j < h {
+        let from = 3 * ((c.y + j) * z.w + c.x);
+        copy_run(&mut frame[from..], new, 3 * (j * c.w), 3 * c.w);
+        j += 1;
+    }
+}
+
+// ---- the passes
+
+// The lines of the view p of the box that the view v shows: behind the box's samples, in a work area that may hold anything.
+pub fn lines(work: &mut [i64], frame: &[u8], v: View, p: View, k: Settings, a: Rgb)
+    requires { ⌜ GivenView v k a (now frame) × InPlane p × (p .w ≡ v .wide) × (p .h ≡ v .tall) ⌝ }
+    requires { ⌜ 2 * (v .wide * v .tall) + 2 * (p .wide * p .tall) ≤ length (now work) ⌝ }
+    ensures lines { λ _. ⌜ Lined (now (work .exit)) (2 * (v .wide * v .tall)) (p .wide) (p .tall)
+        (part (p .top) (p .left) (lined (boxOf v) k a (shown v (now (frame .entry))))) ⌝ }
+    ensures rest { λ _. ⌜ SameFrom (now (work .entry)) (now (work .exit)) (2 * (v .wide * v .tall) + 2 * (p .wide * p .tall)) ⌝ }
+{
+    prepare(work, frame, v, k, a);
+    fit(work, p, k.r, k.e);
+}
+
+// The rectangle o of map and picture, by way of the lines of the rectangle p and the box f, as a clearing of the whole frame has it. The work area may hold
+// anything, and is left wiped.
 fn refresh(
     map: &mut [u16],
     picture: &mut [u8],
     frame: &[u8],
     work: &mut [i64],
     z: Size,
-    b: Size,
-    top: usize,
-    left: usize,
     k: Settings,
     a: Rgb,
+    f: Rect,
+    p: Rect,
     o: Rect,
 )
-    requires { ⌜ Given (described z) (described b) top left k a (now frame) ⌝ }
-    requires { ⌜ Target (described z) (described b) top left o (now map) (now picture) ⌝ }
-    requires { ⌜ Covers (described z) (described b) top left (reach k) (near 0 o) × (room (described z) ≤ length (now work)) ⌝ }
+    requires { ⌜ Given (described z) (described z) 0 0 k a (now frame) × Nested (described z) k f p o ⌝ }
+    requires { ⌜ Loan (described z) (now map) (now picture) (now work) ⌝ }
     ensures map { λ _. ⌜ now (map .exit) ≡ mapWith (described z) (near 0 o) (mapOf (handed z k a) (pixels (described z) (now (frame .entry)))) (now (map .entry)) ⌝ }
     ensures picture { λ _. ⌜ now (picture .exit) ≡ frameWith (described z) (near 0 o) (pictureOf (handed z k a) (pixels (described z) (now (frame .entry)))) (now (picture .entry)) ⌝ }
     ensures work { λ _. ⌜ now (work .exit) ≡ wiped (described z) (now (work .entry)) ⌝ }
 {
-    prepare(work, frame, z, b, top, left, k, a);
-    filter(work, frame, z, b, top, left, k, a);
-    write(map, picture, frame, work, z, b, top, left, k, a, o);
+    let to = view(z, o);
+    lines(work, frame, view(z, f), within(f, p), k, a);
+    write_map(
+        map,
+        frame,
+        to,
+        &work[..],
+        2 * (f.w * f.h),
+        within(p, o),
+        k.r,
+    );
+    write_picture(picture, &map[..], frame, to, a, k.t0);
     wipe(work, 8 * ((z.w + 1) * (z.h + 1)));
 }
 
-// Clear, of a call that is not refused: box and rectangle are the whole frame.
+// Clear, of a call that is not refused: all three are the whole frame.
 pub fn clear_whole(
     map: &mut [u16],
     picture: &mut [u8],
@@ -72,27 +174,10 @@ pub fn clear_whole(
         w: z.w,
         h: z.h,
     };
-    refresh(map, picture, frame, work, z, z, 0, 0, k, a, o);
+    refresh(map, picture, frame, work, z, k, a, o, o, o);
 }
 
-// The rectangle, grown by q rows and columns and cut at the frame.
-fn grow(z: Size, c: Rect, q: usize) -> Rect
-    requires { ⌜ GoodRect (described z) c ⌝ }
-    ensures { λ r. ⌜ r ≡ grownRect (described z) q c ⌝ }
-{
-    let x = less(c.x, q);
-    let y = less(c.y, q);
-    let right = cut(c.x + c.w, q, z.w);
-    let low = cut(c.y + c.h, q, z.h);
-    Rect {
-        x: x,
-        y: y,
-        w: right - x,
-        h: low - y,
-    }
-}
-
-// Replace, of a call that is not refused: the rectangle is that of the new pixels grown by the reach, the box the same grown by twice the reach.
+// Replace, of a call that is not refused: the rectangle of the new pixels grown by the reach, by that and the radius of the filter, and by twice the reach.
 pub fn replace_whole(
     frame: &mut [u8],
     map: &mut [u16],
@@ -114,7 +199,7 @@ pub fn replace_whole(
     paste(frame, z, c, new);
     let q = k.s + 2 * k.r;
     let f = grow(z, c, 2 * q);
+    let p = grow(z, c, q + k.r);
     let o = grow(z, c, q);
-    let b = Size { w: f.w, h: f.h };
-    refresh(map, picture, frame, work, z, b, f.y, f.x, k, a, o);
+    refresh(map, picture, frame, work, z, k, a, f, p, o);
 }

@@ -1,3 +1,5 @@
 -- What belongs to no one function.
-pub mod Reading
-pub mod Passes
+pub mod Rows
+pub mod Planes
+pub mod Minima
+pub mod Going

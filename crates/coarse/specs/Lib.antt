@@ -1,2 +1,2 @@
 -- The definitions that the contracts of the first pass cite.
-pub mod Ratios
+pub mod Rows

@@ -1,128 +1,192 @@
-// The first pass over a box: from the frame's bytes through the least ratios and their minima to the coarse values, in plane 0.
+// The first pass over a box: from the frame's bytes through the least ratios and their minima to the samples, row by row.
 ghost use mathlib.Core.Path.{_≡_};
-ghost use Prim.Native.Nat.{ℕ, _+_, _*_, _≤_, _<_};
-ghost use lib.ListN.{length};
-ghost use lib.IntN.{pos};
-ghost use Rattle.rules.specs.Shape.{described};
+ghost use Prim.Native.Nat.{ℕ, _+_, _-_, _*_, _≤_, _<_};
+ghost use mathlib.Core.List.{List};
+ghost use lib.ListN.{length, getD};
+ghost use lib.IntN.{ℤ, pos};
 ghost use Rattle.rules.specs.Good.{GoodLight};
-ghost use Rattle.rules.specs.Box.{Fits};
+ghost use Rattle.rules.specs.Window.{Plane};
+ghost use Rattle.rules.specs.Transmission.{Sample, leastRatio, sample};
 ghost use Rattle.rules.specs.Buffers.{pixelAt};
-ghost use Rattle.rules.specs.Transmission.{leastRatio, coarse};
-ghost use Rattle.planes.specs.Plane.{plane, SameFrom};
-ghost use Rattle.planes.specs.Put.{PixelPut, RowPut, PlanesPut};
-ghost use Rattle.planes.specs.Stage.{Given, Coarse, shown};
-ghost use Rattle.coarse.specs.Ratios.{Ratio, Ratios, value, coarsened};
+ghost use Rattle.planes.specs.View.{InPlane, boxOf};
+ghost use Rattle.planes.specs.Cells.{SameFrom};
+ghost use Rattle.planes.specs.Stage.{GivenView, Sampled, shown};
+ghost use Rattle.pixel.specs.Over.{ScaledBy};
+ghost use Rattle.columns.specs.Down.{RowIs};
+ghost use Rattle.coarse.specs.Rows.{Scaled, leastAlong, sampleOf, SamplesPut, SampledTo};
+use columns::down;
+use pixel::Scales;
 use pixel::coarse_of;
+use pixel::guide_of;
 use pixel::least_ratio;
+use pixel::light_scale;
 use pixel::pixel_at;
-use planes::clear_edges;
-use planes::get;
-use planes::put;
+use planes::View;
+use planes::row_start;
 use rules::Rgb;
 use rules::Settings;
-use rules::Size;
-use windows::minima;
+use windows::shrink;
 
-// The least ratio of the pixel at position p of the frame goes to the pixel (y, x).
-fn put_ratio(
-    work: &mut [i64],
+// The entry at a light becomes its scale.
+fn note(table: &mut [u32], a: u8)
+    requires { ⌜ (0 < a) × (length (now table) ≡ 256) ⌝ }
+    ensures { λ _. ⌜ Scaled (now (table .exit)) a × ((b : ℕ) → Scaled (now (table .entry)) b → Scaled (now (table .exit)) b) ⌝ }
+{
+    let i = a as usize;
+    table[i] = light_scale(a);
+}
+
+// The scales of the three channels' lights. They go through a table, or the compiler would divide once a pixel in place of three times a call.
+fn scales_of(a: Rgb) -> Scales
+    requires { ⌜ GoodLight a ⌝ }
+    ensures { λ r. ⌜ ScaledBy a r ⌝ }
+{
+    let mut table = [0u32; 256];
+    note(&mut table[..], a.r);
+    note(&mut table[..], a.g);
+    note(&mut table[..], a.b);
+    let r = a.r as usize;
+    let g = a.g as usize;
+    let b = a.b as usize;
+    Scales {
+        r: table[r],
+        g: table[g],
+        b: table[b],
+    }
+}
+
+// The least ratios of n pixels from position p of the frame on.
+fn ratio_row(row: &mut [u16], frame: &[u8], p: usize, n: usize, a: Rgb, k: Scales)
+    requires { ⌜ (n ≤ length (now row)) × (3 * (p + n) ≤ length (now frame)) × GoodLight a × ScaledBy a k ⌝ }
+    ensures { λ _. ⌜ ((x : ℕ) → x < n → getD (now (row .exit)) x 0 ≡ leastRatio a (pixelAt (now (frame .entry)) (p + x))) ⌝ }
+{
+    let mut x = 0;
+    while x < n {
+        row[x] = least_ratio(pixel_at(frame, p + x), a, k) as u16;
+        x += 1;
+    }
+}
+
+// Step i of the minimum has row i of the box, if there is one: its least ratios, each over its window along the row.
+fn take_row(
     frame: &[u8],
-    w: usize,
-    h: usize,
-    y: usize,
-    x: usize,
+    v: View,
+    i: usize,
+    s: usize,
+    a: Rgb,
+    k: Scales,
+    row: &mut [u16],
+    p: &mut [u16],
+    q: &mut [u16],
+)
+    requires { ⌜ InPlane v × (s ≤ 30) × (length (now frame) ≡ 3 * (v .w * v .h)) × GoodLight a × ScaledBy a k ⌝ }
+    requires { ⌜ (length (now row) ≡ 1024) × (length (now p) ≡ 1024) × (length (now q) ≡ 1024) ⌝ }
+    ensures { λ _. ⌜ (i < v .tall → RowIs (now (row .exit)) (leastAlong v a s (now (frame .entry))) i (v .wide)) ⌝ }
+{
+    if v.tall <= i {
+        return;
+    }
+    ratio_row(row, frame, row_start(v, i), v.wide, a, k);
+    shrink(row, v.wide, s, p, q);
+}
+
+// The word of a sample that has its guide g, and above it the guide times the coarse value t.
+fn product_word(g: u64, t: u64) -> i64
+    requires { ⌜ (g ≤ 765) × (t ≤ 10000) ⌝ }
+    ensures { λ r. ⌜ r ≡ pos (g + 16777216 * (g * t)) ⌝ }
+{
+    (g + 16777216 * (g * t)) as i64
+}
+
+// The word that has its coarse value, and above it the guide squared.
+fn square_word(g: u64, t: u64) -> i64
+    requires { ⌜ (g ≤ 765) × (t ≤ 10000) ⌝ }
+    ensures { λ r. ⌜ r ≡ pos (t + 268435456 * (g * g)) ⌝ }
+{
+    (t + 268435456 * (g * g)) as i64
+}
+
+// The samples of n pixels from position p of the frame on, from the least ratios d of their windows: one word of each from `to` on, the other from `two` on.
+fn sample_row(
+    work: &mut [i64],
+    to: usize,
+    two: usize,
+    frame: &[u8],
     p: usize,
-    a: Rgb,
+    n: usize,
+    omega: u64,
+    d: &[u16],
 )
-    requires { ⌜ (y < h) × (x < w) × (plane w h ≤ length (now work)) × (3 * p + 3 ≤ length (now frame)) × GoodLight a ⌝ }
-    ensures { λ _. ⌜ PixelPut (now (work .entry)) (now (work .exit)) w h 0 1 (λ _. pos (leastRatio a (pixelAt (now (frame .entry)) p))) y x ⌝ }
-{
-    let d = least_ratio(pixel_at(frame, p), a);
-    put(work, w, h, 0, y, x, d as i64);
-}
-
-// The least ratios of w pixels from position `first` of the frame on go to row y.
-fn ratio_row(work: &mut [i64], frame: &[u8], w: usize, h: usize, y: usize, first: usize, a: Rgb)
-    requires { ⌜ (y < h) × (plane w h ≤ length (now work)) × (3 * (first + w) ≤ length (now frame)) × GoodLight a ⌝ }
-    ensures { λ _. ⌜ RowPut (now (work .entry)) (now (work .exit)) w h 0 1 (λ _ x. pos (leastRatio a (pixelAt (now (frame .entry)) (first + x)))) y w ⌝ }
+    requires { ⌜ (to + n ≤ two) × (two + n ≤ length (now work)) × (3 * (p + n) ≤ length (now frame)) × (omega ≤ 10000) × (n ≤ length (now d))
+        × ((x : ℕ) → x < n → getD (now d) x 0 ≤ 10000) ⌝ }
+    ensures { λ _. ⌜ SamplesPut (now (work .entry)) (now (work .exit)) to two (λ x. sampleOf omega (pixelAt (now (frame .entry)) (p + x)) (getD (now (d .entry)) x 0)) n ⌝ }
 {
     let mut x = 0;
-    while x < w {
-        put_ratio(work, frame, w, h, y, x, first + x, a);
+    while x < n {
+        let g = guide_of(pixel_at(frame, p + x));
+        let t = coarse_of(omega, d[x] as u64);
+        work[to + x] = product_word(g, t);
+        work[two + x] = square_word(g, t);
         x += 1;
     }
 }
 
-// The least ratios of the box's pixels.
-fn ratios(work: &mut [i64], frame: &[u8], z: Size, b: Size, top: usize, left: usize, a: Rgb)
-    requires { ⌜ (plane (b .w) (b .h) ≤ length (now work)) × Fits (described z) (described b) top left
-        × (z .w * z .h ≤ 262144) × (length (now frame) ≡ 3 * (z .w * z .h)) × GoodLight a ⌝ }
-    ensures { λ _. ⌜ PlanesPut (now (work .entry)) (now (work .exit)) (b .w) (b .h) 0 1 (λ _ y x. pos (leastRatio a (shown (described z) top left (now (frame .entry)) y x))) (b .h) ⌝ }
+// Step i of the minimum gives row i - s of the box, from step s on: its samples go to the work area.
+fn give_row(work: &mut [i64], frame: &[u8], v: View, i: usize, s: usize, omega: u64, d: &[u16])
+    requires { ⌜ InPlane v × (i < v .tall + s) × (length (now frame) ≡ 3 * (v .w * v .h)) × (2 * (v .wide * v .tall) ≤ length (now work)) × (omega ≤ 10000) ⌝ }
+    requires { ⌜ (v .wide ≤ length (now d)) × (s ≤ i → (x : ℕ) → x < v .wide → getD (now d) x 0 ≤ 10000) ⌝ }
+    ensures { λ _. ⌜ ((l : List ℤ) (S : Plane Sample) → SampledTo l (now (work .entry)) (v .wide) (v .tall) S (i - s)
+        → (s ≤ i → (x : ℕ) → x < v .wide → S (i - s) x ≡ sampleOf omega (shown v (now (frame .entry)) (i - s) x) (getD (now (d .entry)) x 0))
+        → SampledTo l (now (work .exit)) (v .wide) (v .tall) S (i + 1 - s)) ⌝ }
 {
-    let w = b.w;
-    let h = b.h;
-    let mut y = 0;
-    while y < h {
-        let first = (top + y) * z.w + left;
-        ratio_row(work, frame, w, h, y, first, a);
-        y += 1;
+    if i < s {
+        return;
     }
+    let y = i - s;
+    let at = y * v.wide;
+    sample_row(
+        work,
+        at,
+        v.wide * v.tall + at,
+        frame,
+        row_start(v, y),
+        v.wide,
+        omega,
+        d,
+    );
 }
 
-// The ratio at the pixel (y, x) becomes its coarse value.
-fn put_coarse(work: &mut [i64], w: usize, h: usize, y: usize, x: usize, omega: u64)
-    requires { ⌜ (y < h) × (x < w) × (plane w h ≤ length (now work)) × (omega ≤ 10000) × Ratio (value (now work) w h y x) ⌝ }
-    ensures { λ _. ⌜ PixelPut (now (work .entry)) (now (work .exit)) w h 0 1 (λ _. coarsened omega (value (now (work .entry)) w h y x)) y x ⌝ }
+// The samples of the box, in a work area that may hold anything.
+pub fn prepare(work: &mut [i64], frame: &[u8], v: View, k: Settings, a: Rgb)
+    requires { ⌜ GivenView v k a (now frame) ⌝ }
+    requires { ⌜ 2 * (v .wide * v .tall) ≤ length (now work) ⌝ }
+    ensures samples { λ _. ⌜ Sampled (now (work .exit)) (v .wide) (v .tall) (sample (boxOf v) k a (shown v (now (frame .entry)))) ⌝ }
+    ensures rest { λ _. ⌜ SameFrom (now (work .entry)) (now (work .exit)) (2 * (v .wide * v .tall)) ⌝ }
 {
-    let d = get(work, w, h, 0, y, x) as u64;
-    put(work, w, h, 0, y, x, coarse_of(omega, d) as i64);
-}
-
-// The ratios of row y become coarse values.
-fn coarse_row(work: &mut [i64], w: usize, h: usize, y: usize, omega: u64)
-    requires { ⌜ (y < h) × (plane w h ≤ length (now work)) × (omega ≤ 10000) × Ratios (now work) w h y ⌝ }
-    ensures { λ _. ⌜ RowPut (now (work .entry)) (now (work .exit)) w h 0 1 (λ _ x. coarsened omega (value (now (work .entry)) w h y x)) y w ⌝ }
-{
-    let mut x = 0;
-    while x < w {
-        put_coarse(work, w, h, y, x, omega);
-        x += 1;
+    let mut row = [0u16; 1024];
+    let mut p = [0u16; 1024];
+    let mut q = [0u16; 1024];
+    let mut store = [0u16; 62464];
+    let mut ahead = [0u16; 1024];
+    let mut out = [0u16; 1024];
+    let by = scales_of(a);
+    let w = v.wide;
+    let h = v.tall;
+    let s = k.s;
+    let mut i = 0;
+    while i < h + s {
+        take_row(frame, v, i, s, a, by, &mut row[..], &mut p[..], &mut q[..]);
+        down(
+            &row[..],
+            i,
+            h,
+            w,
+            s,
+            &mut store[..],
+            &mut ahead[..],
+            &mut out[..],
+        );
+        give_row(work, frame, v, i, s, k.omega, &out[..]);
+        i += 1;
     }
-}
-
-// The ratios of the box become coarse values.
-fn coarsen(work: &mut [i64], w: usize, h: usize, omega: u64)
-    requires { ⌜ (plane w h ≤ length (now work)) × (omega ≤ 10000) × ((y : ℕ) → y < h → Ratios (now work) w h y) ⌝ }
-    ensures { λ _. ⌜ PlanesPut (now (work .entry)) (now (work .exit)) w h 0 1 (λ _ y x. coarsened omega (value (now (work .entry)) w h y x)) h ⌝ }
-{
-    let mut y = 0;
-    while y < h {
-        coarse_row(work, w, h, y, omega);
-        y += 1;
-    }
-}
-
-// The coarse values of the box, in a work area that may hold anything.
-pub fn prepare(
-    work: &mut [i64],
-    frame: &[u8],
-    z: Size,
-    b: Size,
-    top: usize,
-    left: usize,
-    k: Settings,
-    a: Rgb,
-)
-    requires { ⌜ Given (described z) (described b) top left k a (now frame) ⌝ }
-    requires { ⌜ 8 * plane (b .w) (b .h) ≤ length (now work) ⌝ }
-    ensures coarse { λ _. ⌜ Coarse (now (work .exit)) (b .w) (b .h) (coarse (described b) k a (shown (described z) top left (now (frame .entry)))) ⌝ }
-    ensures rest { λ _. ⌜ SameFrom (now (work .entry)) (now (work .exit)) (8 * plane (b .w) (b .h)) ⌝ }
-{
-    let w = b.w;
-    let h = b.h;
-    let p = (h + 1) * (w + 1);
-    clear_edges(work, w, h, 6);
-    ratios(work, frame, z, b, top, left, a);
-    minima(work, w + 2, w + 1, w, h, k.s, 6 * p);
-    coarsen(work, w, h, k.omega);
 }

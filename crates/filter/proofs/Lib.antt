@@ -1,5 +1,7 @@
 -- Laws of the filter.
-pub mod Samples
+pub mod Words
+pub mod Squares
+pub mod Rows
 pub mod Lines
-pub mod Stages
-pub mod Refine
+pub mod Samples
+pub mod Going

@@ -1,44 +1,68 @@
--- The samples: how large what the planes have of them is, and that the filling of planes 1 to 3 leaves the coarse values. Assumes nothing.
-use mathlib.Core.Path.{_≡_}
+-- The two planes of samples, before any line is written and after: what the sums are given of them, and what they leave. Assumes nothing.
+use mathlib.Core.Path.{_≡_, sym, _∙_}
 use mathlib.Core.List.{List}
-use Prim.Native.Nat.{ℕ, zero, suc, _*_, _≤_, _<_}
+use Prim.Native.Nat.{ℕ, _+_, _*_, _≤_, _<_}
 use native.Mathlib.Nat.{mul-le-mul}
 use native.Mathlib.Omega.{arith}
 use lib.ListN.{length, getD}
 use lib.IntN.{ℤ, pos}
+use Rattle.rules.specs.Window.{Plane}
 use Rattle.rules.specs.Transmission.{Sample}
-use Rattle.planes.specs.Plane.{plane, Kept}
-use Rattle.planes.specs.Put.{place}
-use Rattle.planes.proofs.Places.{place-in}
-use Rattle.filter.specs.Fill.{moment, FillIn}
+use Rattle.rules.proofs.Buffers.{place-lt}
+use Rattle.planes.specs.declared.View.{View}
+use Rattle.planes.specs.View.{InPlane}
+use Rattle.planes.specs.Cells.{cells}
+use Rattle.planes.specs.Stage.{Sampled}
+use Rattle.planes.proofs.Tails.{rest, rest-cells}
+use Rattle.sums.specs.Sum.{Summable, Columns}
+use Rattle.sums.proofs.Lent.{summable-rest, columns-as}
 
--- the most that plane j has of a sample
-abbrev pub most : ℕ → ℕ
-most zero = 10000
-most (suc zero) = 765
-most (suc (suc zero)) = 585225
-most (suc (suc (suc j))) = 7650000
+-- ---- what the sums are given
 
-pub moment-le : (j : ℕ) (i : Sample) → i .g ≤ 765 → i .t ≤ 10000 → moment j i ≤ most j
-moment-le zero i hg ht = ht
-moment-le (suc zero) i hg ht = hg
-moment-le (suc (suc zero)) i hg ht = mul-le-mul hg hg
-moment-le (suc (suc (suc j))) i hg ht = mul-le-mul hg ht
-
-pub most-le : (j : ℕ) → most j ≤ 7650000
-most-le zero = omega arith
-most-le (suc zero) = omega arith
-most-le (suc (suc zero)) = omega arith
-most-le (suc (suc (suc j))) = omega arith
-
--- a pass over planes 1 to 3 leaves the coarse values
-module _ (l m : List ℤ) (w h : ℕ) (k : Kept l m (1 * plane w h) (4 * plane w h)) where
-  pub same-level : (y x : ℕ) → y < h → x < w → getD m (place w h 0 y x) (pos 0) ≡ getD l (place w h 0 y x) (pos 0)
-  same-level y x hy hx = k .before (place w h 0 y x) (omega (arith, place-in w h 0 y x hy hx))
-
-  pub fill-still : length m ≡ length l → FillIn l w h → FillIn m w h
-  fill-still long p = record {
-    room = omega (arith, p .room);
-    whole = λ y x hy hx. rw (same-level y x hy hx) (p .whole y x hy hx);
-    small = λ y x hy hx. rw (same-level y x hy hx) (p .small y x hy hx);
+module _ {l : List ℤ} (v : View) (r : ℕ) {S : Plane Sample} (i : InPlane v) (hr : r ≤ 60) (s : Sampled l (v .w) (v .h) S) where
+  pub first-summable : Summable l v r
+  first-summable = record {
+    in-plane = i;
+    r-most = hr;
+    room = omega (arith, s .room);
+    small = λ y x hy hx. rw (s .products y x hy hx) (omega (arith, mul-le-mul (s .g-le y x hy hx) (s .t-le y x hy hx), s .g-le y x hy hx));
   }
+
+  pub second-summable : Summable (rest l (v .w * v .h)) v r
+  second-summable =
+      summable-rest l (v .w * v .h) v r i hr (omega (arith, s .room))
+      (λ y x hy hx. rw (s .squares y x hy hx) (omega (arith, mul-le-mul (s .g-le y x hy hx) (s .g-le y x hy hx), s .t-le y x hy hx)))
+
+-- ---- what a pass that writes behind the samples leaves
+
+-- m has l's entries before n
+pub record SameBefore (l m : List ℤ) (n : ℕ) : Type 0 where
+  pub same : (k : ℕ) → k < n → getD m k (pos 0) ≡ getD l k (pos 0)
+
+module _ {l m : List ℤ} {w h : ℕ} (k : SameBefore l m (2 * (w * h))) where
+  -- both planes' cells
+  first-same : (y x : ℕ) → y < h → x < w → cells m 0 w y x ≡ cells l 0 w y x
+  first-same y x hy hx = k .same (0 + (y * w + x)) (omega (arith, place-lt (record { w = w; h = h }) y x hy hx))
+
+  second-same : (y x : ℕ) → y < h → x < w → cells m (w * h) w y x ≡ cells l (w * h) w y x
+  second-same y x hy hx = k .same (w * h + (y * w + x)) (omega (arith, place-lt (record { w = w; h = h }) y x hy hx))
+
+  -- the samples
+  pub sampled-still : {S : Plane Sample} → length m ≡ length l → Sampled l w h S → Sampled m w h S
+  sampled-still long s = record {
+    room = omega (arith, s .room);
+    g-le = s .g-le;
+    t-le = s .t-le;
+    products = λ y x hy hx. first-same y x hy hx ∙ s .products y x hy hx;
+    squares = λ y x hy hx. second-same y x hy hx ∙ s .squares y x hy hx;
+  }
+
+-- the columns of both planes
+module _ {l m c : List ℤ} {w h r y : ℕ} (k : SameBefore l m (2 * (w * h))) where
+  pub first-columns : Columns c (cells l 0 w) w h r y → Columns c (cells m 0 w) w h r y
+  first-columns = columns-as (cells l 0 w) (cells m 0 w) (first-same k)
+
+  pub second-columns : Columns c (cells (rest l (w * h)) 0 w) w h r y → Columns c (cells (rest m (w * h)) 0 w) w h r y
+  second-columns =
+      columns-as (cells (rest l (w * h)) 0 w) (cells (rest m (w * h)) 0 w)
+      (λ v u hv hu. rest-cells m (w * h) w v u ∙ second-same k v u hv hu ∙ sym (rest-cells l (w * h) w v u))

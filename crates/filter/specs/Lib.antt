@@ -1,3 +1,3 @@
 -- The definitions that the contracts of the filter cite.
-pub mod Fill
 pub mod Fit
+pub mod Row

@@ -1,93 +1,110 @@
--- What the calls leave in the work area, one after the other: the least bytes of the pixels, and their least over the windows.
--- Assumes nothing.
+-- What the steps leave in the work area, row by row: the dark values, their counts and their bounds. Assumes nothing.
 use mathlib.Core.Path.{_≡_, refl, sym, ap, _∙_}
-use mathlib.Core.List.{List, [], _∷_}
-use Prim.Native.Nat.{ℕ, _+_, _*_, _/_, _%_, _≤_, _<_}
-use native.Mathlib.Nat.{zero-add, add-mul, one-mul, mul-add, mul-one, div-add-mod'}
+use mathlib.Core.List.{List, _++_}
+use Prim.Native.Nat.{ℕ, _+_, _-_, _*_, _%_, _≤_, _<_}
+use native.Mathlib.Nat.{zero-mul, add-mul, one-mul, mul-add, mul-one, mul-comm, mul-le-mul-right}
 use native.Mathlib.Omega.{arith}
 use native.Mathlib.Decide.{decLt}
-use lib.ListN.{length, getD, set}
+use lib.Dec.{eqb}
+use lib.ListN.{length, getD, set, replicate, drop}
 use lib.Seq.{getD-set-same, getD-set-other}
 use lib.IntN.{ℤ, pos, natAbs}
 use Rattle.rules.specs.Shape.{Shape, described, room}
 use Rattle.rules.specs.declared.Size.{Size}
 use Rattle.rules.specs.declared.Settings.{Settings}
-use Rattle.rules.specs.Window.{least, window}
-use Rattle.rules.specs.Light.{darkest, dark, at}
-use Rattle.rules.specs.Buffers.{pixelAt, pixels}
-use Rattle.rules.specs.Good.{GoodSize}
-use Rattle.rules.proofs.Buffers.{place-lt, row-lt, column-lt}
-use Rattle.windows.specs.Plane.{Area, PlaneMin}
-use Rattle.light.specs.Steps.{value, ByteEntries, Filled, DarkPlane}
+use Rattle.rules.specs.Promise.{wiped}
+use Rattle.rules.proofs.Buffers.{place-lt}
+use Rattle.planes.specs.Cells.{SameFrom}
+use Rattle.planes.proofs.Wiped.{wiped-same}
+use Rattle.light.specs.Steps.{value, ByteEntries, Starts, hits, lane, RowPut, darkAt, DarkPlane, DarkTo, Darkened}
+use Rattle.light.proofs.Positions.{count-cong}
+use Rattle.light.proofs.Minima.{dark-le}
 
--- the plane at the start, entry by entry
-pub filled-none : (frame : List ℕ) (w : List ℤ) → Filled frame 0 w w
-filled-none frame w = record { plane = λ k h. absurd (omega arith); rest = λ k h. refl }
+-- ---- places
 
-pub filled-more : (frame : List ℕ) (w v : List ℤ) (p : ℕ) (x : ℤ) → p < length v → x ≡ pos (darkest (pixelAt frame p)) → Filled frame p w v
-    → Filled frame (p + 1) w (set v p x)
-filled-more frame w v p x n e f = record { plane = λ k h. go k h (decLt k p); rest = λ k h. getD-set-other v p k x (pos 0) (λ g. omega arith) ∙ f .rest k (omega arith) }
-  where
-    go : (k : ℕ) → k < p + 1 → Dec (k < p) → getD (set v p x) k (pos 0) ≡ pos (darkest (pixelAt frame k))
-    go k h (yes j) = getD-set-other v p k x (pos 0) (λ g. omega arith) ∙ f .plane k j
-    go k h (no j) = let g : k ≡ p = omega arith in rw g (getD-set-same v p x (pos 0) n ∙ e)
-
--- ---- the minimum: its plane and the scratch behind it lie in the call's own part
-
+-- the call's own part has room for three planes
 pub roomy : (z : Shape) → 3 * (z .w * z .h) ≤ room z
 roomy z = omega (arith, add-mul (z .w) 1 (z .h + 1), one-mul (z .h + 1), mul-add (z .w) (z .h) 1, mul-one (z .w))
 
-pub in-place : (z : Size) (l : List ℤ) → GoodSize (described z) → room (described z) ≤ length l → Area l 0 (z .w) (z .w) (z .h) (z .w * z .h)
-in-place z l g h =
-    let t = roomy (described z) in
-    record {
-      across = g .across;
-      down = g .down;
-      wide = omega arith;
-      inside = λ y x hy hx. omega (arith, place-lt (described z) y x hy hx);
-      room = omega arith;
-      off = λ y x hy hx a b. omega (arith, place-lt (described z) y x hy hx);
-    }
+-- m, which is l past the plane, is wiped as l is
+pub wiped-after : (z : Shape) (l m v : List ℤ) → length m ≡ length l → SameFrom l m (z .w * z .h) → v ≡ replicate (room z) (pos 0) ++ drop (room z) m → v ≡ wiped z l
+unfolding wiped
+wiped-after z l m v long same e = e ∙ wiped-same z l m (z .w * z .h) long (omega (arith, roomy z)) same
 
-least-le : (top : ℕ) (l : List ℕ) → least top l ≤ top
-least-le top [] = omega arith
-least-le top (i ∷ l) = omega (arith, least-le top l)
+-- where the next row begins
+pub row-next : (w y : ℕ) → (y + 1) * w ≡ y * w + w
+row-next w y = omega (arith, add-mul y 1 w, one-mul w)
 
-module _ (z : Size) (k : Settings) (frame : List ℕ) (w u v : List ℤ) (r : ℕ) (bytes : (i : ℕ) → getD frame i 0 ≤ 255)
-    (f : Filled frame (z .w * z .h) w u) (m : PlaneMin u v 0 (z .w) (z .w) (z .h) (k .s) (z .w * z .h) r) where
-  dark-at : (p : ℕ) → p < z .w * z .h → getD v p (pos 0) ≡ pos (at (described z) (dark (described z) (k .s) (pixels (described z) frame)) p)
-  unfolding dark window pixels
-  dark-at p h =
-      ap (λ (i : ℕ). getD v i (pos 0)) (sym (ap (λ (i : ℕ). i + p % z .w) (zero-add (p / z .w * z .w)) ∙ div-add-mod' p (z .w)))
-      ∙ m .mins 255 (λ y x. darkest (pixels (described z) frame y x)) (λ y x hy hx. omega (arith, bytes (3 * (y * z .w + x))))
-      (λ y x hy hx. ap (λ (i : ℕ). getD u (i + x) (pos 0)) (zero-add (y * z .w)) ∙ f .plane (y * z .w + x) (place-lt (described z) y x hy hx))
-      (p / z .w) (p % z .w) (row-lt (described z) p h) (column-lt (described z) p h)
+-- row y of h ends in the plane
+pub row-end : (w h y : ℕ) → y < h → y * w + w ≤ w * h
+row-end w h y l =
+    let m : (y + 1) * w ≤ h * w = mul-le-mul-right w (omega arith) in
+    omega (arith, mul-comm w h, row-next w y)
 
-  dark-le : (p : ℕ) → at (described z) (dark (described z) (k .s) (pixels (described z) frame)) p ≤ 255
-  unfolding dark
-  dark-le p = least-le 255 (window (described z) (k .s) (λ y x. darkest (pixels (described z) frame y x)) (p / z .w) (p % z .w))
+-- ---- the rows that are given
 
-  pub dark-plane : DarkPlane z k frame w v
-  dark-plane =
+module _ (z : Shape) (D : ℕ → ℕ) (l : List ℤ) where
+  pub dark-none : (apart tops : List ℕ) → Starts (λ v. 0) 1024 apart → DarkTo z D l l apart tops 0
+  dark-none apart tops h =
+      let e : 0 * z .w ≡ 0 = zero-mul (z .w) in
       record {
-        is = dark-at;
-        small = dark-le;
-        rest =
-            record {
-              same =
-                  λ i h.
-                  let t = roomy (described z) in
-                  m .rest i (λ a b. omega arith) (λ y x hy hx e. omega (arith, place-lt (described z) y x hy hx)) ∙ f .rest i (omega arith);
-            };
+        plane = λ p q. absurd (omega arith);
+        rest = record { same = λ i q. refl };
+        counts = rw e h;
+        bounds = λ y x p q. absurd (omega arith);
       }
+
+  -- row n is given: its dark values d, the counts with them, and a bound of them
+  module _ (m m′ : List ℤ) (apart apart′ tops : List ℕ) (n : ℕ) (d : ℕ → ℕ) (top : ℕ) (low : n < z .h) (row : (x : ℕ) → x < z .w → d x ≡ D (n * z .w + x)) where
+    pub dark-more : DarkTo z D l m apart tops n → RowPut m m′ (n * z .w) d (z .w) → Starts (hits (lane D) (n * z .w + z .w)) 1024 apart′
+        → n < length tops → ((x : ℕ) → x < z .w → d x ≤ top) → DarkTo z D l m′ apart′ (set tops n top) (n + 1)
+    dark-more was put counted inside bound =
+        record {
+          plane = λ p q. plane p (omega (arith, row-next (z .w) n)) (decLt p (n * z .w));
+          rest = record { same = λ i q. put .kept i (λ s t. omega (arith, row-end (z .w) (z .h) n low)) ∙ was .rest .same i q };
+          counts = rw (row-next (z .w) n) counted;
+          bounds = λ y x p q. top-of y x p q (decLt y n);
+        }
+      where
+        plane : (p : ℕ) → p < n * z .w + z .w → Dec (p < n * z .w) → getD m′ p (pos 0) ≡ pos (D p)
+        plane p q (yes j) = put .kept p (λ s t. omega arith) ∙ was .plane p j
+        plane p q (no j) =
+            let e : p ≡ n * z .w + (p - n * z .w) = omega arith in
+            let u : p - n * z .w < z .w = omega arith in
+            rw e (put .row (p - n * z .w) u ∙ ap pos (row (p - n * z .w) u))
+
+        top-of : (y x : ℕ) → y < n + 1 → x < z .w → Dec (y < n) → D (y * z .w + x) ≤ getD (set tops n top) y 0
+        top-of y x p q (yes j) = rw (getD-set-other tops n y top 0 (λ e. omega arith)) (was .bounds y x j q)
+        top-of y x p q (no j) =
+            let e : y ≡ n = omega arith in
+            rw (e, getD-set-same tops n top 0 inside) (omega (arith, row x q, bound x q))
 
 -- ---- the dark values, read again
 
-module _ (z : Size) (k : Settings) (frame : List ℕ) (w v : List ℤ) (d : DarkPlane z k frame w v) where
-  pub value-dark : (p : ℕ) → p < z .w * z .h → value v p ≡ at (described z) (dark (described z) (k .s) (pixels (described z) frame)) p
+module _ (z : Size) (k : Settings) (frame : List ℕ) (v : List ℤ) (d : DarkPlane z k frame v) where
+  pub value-dark : (p : ℕ) → p < z .w * z .h → value v p ≡ darkAt (described z) (k .s) frame p
   value-dark p h = ap natAbs (d .is p h)
 
   pub levels : ByteEntries (z .w * z .h) v
   levels p h =
       let e = value-dark p h in
       (d .is p h ∙ ap pos (sym e), omega (arith, d .small p))
+
+-- all rows are given
+pub dark-all : (z : Size) (k : Settings) (frame : List ℕ) (l m : List ℤ) (apart tops : List ℕ) → DarkTo (described z) (darkAt (described z) (k .s) frame) l m apart tops (z .h)
+    → Darkened z k frame m apart tops
+dark-all z k frame l m apart tops to =
+    let same = value-dark z k frame m plane in
+    record {
+      plane = plane;
+      counts =
+          λ v h.
+          rw (mul-comm (z .w) (z .h))
+          (to .counts v h
+          ∙ count-cong (λ o. eqb v (lane (darkAt (described z) (k .s) frame) o)) (λ o. eqb v (lane (value m) o)) 0 (z .h * z .w)
+          (λ o a b. ap (λ (i : ℕ). eqb v (4 * i + o % 4)) (sym (same o (omega (arith, mul-comm (z .w) (z .h)))))));
+      bounds = λ y x hy hx. rw (same (y * z .w + x) (place-lt (described z) y x hy hx)) (to .bounds y x hy hx);
+    }
+  where
+    plane : DarkPlane z k frame m
+    plane = record { is = λ p h. to .plane p (omega (arith, mul-comm (z .w) (z .h))); small = dark-le (described z) (k .s) frame }

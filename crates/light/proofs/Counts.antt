@@ -3,7 +3,7 @@ use mathlib.Core.Path.{_≡_, refl, sym, ap, ap₂, subst, _∙_}
 use mathlib.Core.Bool.{Bool, true, false, cond, _&&_, _||_}
 use mathlib.Core.List.{List}
 use Prim.Native.Nat.{ℕ, zero, suc, _+_, _-_, _*_, _%_, _≤_, _<_}
-use native.Mathlib.Decide.{decLt}
+use native.Mathlib.Decide.{decLt, ℕ-discrete}
 use native.Mathlib.Nat.{add-zero}
 use native.Mathlib.Numerals.{add-one}
 use native.Mathlib.Omega.{arith}
@@ -16,8 +16,8 @@ use Rattle.rules.specs.Window.{total}
 use Rattle.rules.specs.Light.{count, rank}
 use Rattle.rules.proofs.Rank.{count-or, above, reaching, earlier, by-cutoff}
 use Rattle.light.specs.declared.Cut.{Cut}
-use Rattle.light.specs.Steps.{upto, hits, Starts, Tallied, lane, joined, atLeast, CutAt, admitted}
-use Rattle.light.proofs.Positions.{count-cong, count-none, all-upto, hits-more, count-before}
+use Rattle.light.specs.Steps.{upto, hits, Starts, Tallied, Below, lane, joined, atLeast, CutAt, admitted}
+use Rattle.light.proofs.Positions.{count-cong, count-none, all-upto, hits-more, hits-le, count-before}
 
 -- one entry more is right
 pub starts-more : (g : ℕ → ℕ) (n : ℕ) (l : List ℕ) (x : ℕ) → n < length l → x ≡ g n → Starts g n l → Starts g (n + 1) (set l n x)
@@ -43,6 +43,17 @@ tallied-more d m n l x b f h v s = go (decLt v x) (decLt x v)
         let z : x ≡ v = omega arith in
         let y : eqb v (d n) ≡ true = eq-eqb v (d n) (sym z ∙ f) in
         rw z (getD-set-same l v (getD l v 0 + 1) 0 (omega arith) ∙ ap (λ (i : ℕ). i + 1) (h v s) ∙ sym (hits-more d n v ∙ rw y))
+
+-- and no count is above how many are counted
+pub below-more : (n : ℕ) (l : List ℕ) (x : ℕ) → x < length l → x < 1024 → Below n l → Below (n + 1) (set l x (getD l x 0 + 1))
+below-more n l x b s h v q = go (ℕ-discrete v x)
+  where
+    go : Dec (v ≡ x) → getD (set l x (getD l x 0 + 1)) v 0 ≤ n + 1
+    go (yes e) = rw (e, getD-set-same l x (getD l x 0 + 1) 0 b) (omega (arith, h x s))
+    go (no e) = rw (getD-set-other l x v (getD l x 0 + 1) 0 e) (omega (arith, h v q))
+
+pub hits-below : (d : ℕ → ℕ) (n : ℕ) (l : List ℕ) → Starts (hits d n) 1024 l → Below n l
+hits-below d n l h v q = omega (arith, h v q, hits-le d n v)
 
 -- ---- the four lanes of a value
 

@@ -2,24 +2,20 @@
 use mathlib.Core.Path.{_≡_, refl, sym, ap, _∙_}
 use mathlib.Core.Bool.{Bool, true, false, cond, _&&_, _||_}
 use mathlib.Core.List.{List, [], _∷_, _++_, append-nil}
-use Prim.Native.Nat.{ℕ, _+_, _<_}
+use Prim.Native.Nat.{ℕ, zero, suc, _+_, _<_, max}
 use native.Mathlib.Decide.{decLt}
+use native.Mathlib.Nat.{add-zero}
 use native.Mathlib.Omega.{arith}
-use borrow.Author.Tests.{lt-ltb, le-ltb, le-leb, lt-leb}
+use borrow.Author.Tests.{lt-ltb, le-ltb, le-leb, lt-leb, ne-eqb}
 use lib.Dec.{ltb, leb, eqb}
-use Rattle.rules.specs.Light.{keep, best, brightest}
+use lib.IntN.{ℤ}
+use Rattle.rules.specs.Light.{guide, keep, best}
+use Rattle.rules.specs.Buffers.{pixelAt}
 use Rattle.light.specs.declared.Leader.{Leader}
+use Rattle.light.specs.declared.Walk.{Walk}
 use Rattle.light.specs.declared.Cut.{Cut}
-use Rattle.light.specs.Steps.{upto, hits, next, admitted}
+use Rattle.light.specs.Steps.{value, upto, next, admitted, kept, Walked, Chosen}
 use Rattle.light.proofs.Positions.{keep-more, hits-more}
-
--- one more than its guide, 0 before the first
-abbrev tops : (ℕ → ℕ) → List ℕ → ℕ
-tops g [] = 0
-tops g (p ∷ l) = g (best g p l) + 1
-
-abbrev pub kept : (ℕ → ℕ) → List ℕ → Leader
-kept g l = record { place = brightest g l; top = tops g l }
 
 best-more : (g : ℕ → ℕ) (p o : ℕ) (l : List ℕ) → best g p (l ++ (o ∷ [])) ≡ cond (ltb (g (best g p l)) (g o)) o (best g p l)
 best-more g p o [] = refl
@@ -48,21 +44,40 @@ next-lt n b ok o x h k = go ok (leb (b .top) x)
     go true false = h
     go false t = h
 
--- ---- the loop over the positions, at p: what is kept, and how many before p stand at the cutoff
+-- ---- a turn at position p: x is the dark value, y the guide
 
-pub record Going (g d : ℕ → ℕ) (c : Cut) (n p : ℕ) (b : Leader) (seen : ℕ) : Type 0 where
-  pub leads : b ≡ kept g (keep (admitted d c) (upto p))
-  pub level : seen ≡ hits d p (c .value)
-  pub inside : b .place < n
+module _ (frame : List ℕ) (work : List ℤ) (c : Cut) where
+  module _ (p : ℕ) (b : Walk) (b′ : Leader) (seen′ x y : ℕ) (ok : Bool) where
+    pub turn : Walked frame work c p b → x ≡ value work p → y ≡ guide (pixelAt frame p)
+        → ok ≡ (ltb (c .value) x || (eqb (c .value) x && ltb (b .seen) (c .ties)))
+        → b′ ≡ next (b .leader) ok p y → seen′ ≡ b .seen + cond (eqb (c .value) x) 1 0 → Walked frame work c (p + 1) (record { leader = b′; seen = seen′ })
+    turn l ex ey eo eb es =
+        let d = value work in
+        let t : ok ≡ admitted d c p = eo ∙ (λ i. ltb (c .value) (ex i) || (eqb (c .value) (ex i) && ltb (l .level i) (c .ties))) in
+        record {
+          leads = eb ∙ (λ i. next (l .leads i) (t i) p (ey i)) ∙ sym (kept-more (λ o. guide (pixelAt frame o)) (admitted d c) p);
+          level = es ∙ (λ i. l .level i + cond (eqb (c .value) (ex i)) 1 0) ∙ sym (hits-more d p (c .value));
+          inside = rw eb (next-lt (max 1 (p + 1)) (b .leader) ok p y (omega (arith, l .inside)) (omega arith));
+        }
 
--- a turn: x is the dark value, y the guide
-module _ (g d : ℕ → ℕ) (c : Cut) (n p : ℕ) (b b′ : Leader) (seen seen′ x y : ℕ) (ok : Bool) where
-  pub turn : Going g d c n p b seen → p < n → x ≡ d p → y ≡ g p → ok ≡ (ltb (c .value) x || (eqb (c .value) x && ltb seen (c .ties)))
-      → b′ ≡ next b ok p y → seen′ ≡ seen + cond (eqb (c .value) x) 1 0 → Going g d c n (p + 1) b′ seen′
-  turn l h ex ey eo eb es =
-      let t : ok ≡ admitted d c p = eo ∙ (λ i. ltb (c .value) (ex i) || (eqb (c .value) (ex i) && ltb (l .level i) (c .ties))) in
-      record {
-        leads = eb ∙ (λ i. next (l .leads i) (t i) p (ey i)) ∙ sym (kept-more g (admitted d c) p);
-        level = es ∙ (λ i. l .level i + cond (eqb (c .value) (ex i)) 1 0) ∙ sym (hits-more d p (c .value));
-        inside = rw eb (next-lt n b ok p y (l .inside) h);
-      }
+  pub start : Walked frame work c 0 (record { leader = record { place = 0; top = 0 }; seen = 0 })
+  start = record { leads = refl; level = refl; inside = omega arith }
+
+  -- a pixel below the cutoff changes nothing
+  below : (p : ℕ) (b : Walk) → value work p < c .value → Walked frame work c p b → Walked frame work c (p + 1) b
+  below p b h l =
+      let x = value work p in
+      let e : false ≡ (ltb (c .value) x || (eqb (c .value) x && ltb (b .seen) (c .ties))) = rw (le-ltb (c .value) x (omega arith), ne-eqb (c .value) x (λ k. omega arith)) in
+      let f : b .seen ≡ b .seen + cond (eqb (c .value) x) 1 0 = rw (ne-eqb (c .value) x (λ k. omega arith), add-zero) in
+      turn p b (b .leader) (b .seen) x (guide (pixelAt frame p)) false l refl refl e refl f
+
+  -- and so do n of them
+  pub passed : (p n : ℕ) (b : Walk) → ((x : ℕ) → x < n → value work (p + x) < c .value) → Walked frame work c p b → Walked frame work c (p + n) b
+  passed p zero b h l = rw (add-zero p) l
+  passed p (suc n) b h l =
+      let e : p + suc n ≡ p + n + 1 = omega arith in
+      rw e (below (p + n) b (h n (omega arith)) (passed p n b (λ x q. h x (omega arith)) l))
+
+  -- at the end the leader is the one that is chosen
+  pub chosen : (p : ℕ) (b : Walk) → 0 < p → Walked frame work c p b → Chosen frame work p c (b .leader .place)
+  chosen p b h l = record { inside = omega (arith, l .inside); best = ap (λ (i : Leader). i .place) (l .leads) }

@@ -2,5 +2,8 @@
 pub mod Positions
 pub mod Counts
 pub mod Keeping
+pub mod Rows
+pub mod Minima
 pub mod Areas
+pub mod Going
 pub mod Answer

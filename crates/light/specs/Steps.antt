@@ -1,22 +1,24 @@
 -- What the parts of the light's search leave: the plane of dark values, the counts, the cutoff, the candidate that is kept. Assumes nothing.
 use mathlib.Core.Path.{_≡_}
 use mathlib.Core.Bool.{Bool, cond, _&&_, _||_}
-use mathlib.Core.List.{List}
-use Prim.Native.Nat.{ℕ, _+_, _-_, _*_, _%_, _≤_, _<_}
+use mathlib.Core.List.{List, [], _∷_}
+use Prim.Native.Nat.{ℕ, _+_, _-_, _*_, _%_, _≤_, _<_, min, max}
 use lib.Dec.{ltb, leb, eqb}
-use lib.ListN.{getD, drop}
+use lib.ListN.{length, getD, drop}
 use lib.IntN.{ℤ, pos, natAbs}
-use Rattle.rules.specs.Shape.{described, room}
+use Rattle.rules.specs.Shape.{Shape, described}
 use Rattle.rules.specs.declared.Size.{Size}
 use Rattle.rules.specs.declared.Settings.{Settings}
 use Rattle.rules.specs.declared.Rgb.{Rgb}
-use Rattle.rules.specs.Window.{from, total}
-use Rattle.rules.specs.Light.{darkest, dark, at, guide, count, keep, brightest, light}
+use Rattle.rules.specs.Window.{Plane, from, total}
+use Rattle.rules.specs.Light.{darkest, dark, at, guide, count, keep, best, brightest, lifted, light}
 use Rattle.rules.specs.Buffers.{pixelAt, pixels}
 use Rattle.rules.specs.Promise.{wiped}
-use Rattle.planes.specs.Plane.{SameFrom}
+use Rattle.planes.specs.Cells.{SameFrom}
+use Rattle.windows.specs.Span.{windowed}
 use Rattle.light.specs.declared.Cut.{Cut}
 use Rattle.light.specs.declared.Leader.{Leader}
+use Rattle.light.specs.declared.Walk.{Walk}
 
 -- ---- the plane of dark values, at the work area's start
 
@@ -28,10 +30,14 @@ value w p = natAbs (getD w p (pos 0))
 abbrev pub ByteEntries : ℕ → List ℤ → Type 0
 ByteEntries n w = (p : ℕ) → p < n → (getD w p (pos 0) ≡ pos (value w p)) × (value w p ≤ 255)
 
--- v is w but for its first n entries, which are the least bytes of the pixels
-pub record Filled (frame : List ℕ) (n : ℕ) (w v : List ℤ) : Type 0 where
-  pub plane : (p : ℕ) → p < n → getD v p (pos 0) ≡ pos (darkest (pixelAt frame p))
-  pub rest : (p : ℕ) → n ≤ p → getD v p (pos 0) ≡ getD w p (pos 0)
+-- the least bytes of the pixels, each over its window of radius s along the row
+abbrev pub leastAlong : Shape → ℕ → List ℕ → Plane ℕ
+leastAlong z s frame y x = windowed min (λ u. darkest (pixels z frame y u)) s (z .w) x
+
+-- m is l but for n entries from `to` on, which are those of g
+pub record RowPut (l m : List ℤ) (to : ℕ) (g : ℕ → ℕ) (n : ℕ) : Type 0 where
+  pub row : (x : ℕ) → x < n → getD m (to + x) (pos 0) ≡ pos (g x)
+  pub kept : (i : ℕ) → (to ≤ i → i < to + n → ⊥) → getD m i (pos 0) ≡ getD l i (pos 0)
 
 -- ---- counts
 
@@ -54,9 +60,13 @@ Tallied d n = Starts (hits d n) 256
 abbrev pub lane : (ℕ → ℕ) → ℕ → ℕ
 lane d p = 4 * d p + p % 4
 
--- none of the counts is above the pixels of the largest frame
+-- none of the counts is above n
+abbrev pub Below : ℕ → List ℕ → Type 0
+Below n l = (v : ℕ) → v < 1024 → getD l v 0 ≤ n
+
+-- or above the pixels of the largest frame
 abbrev pub Few : List ℕ → Type 0
-Few l = (v : ℕ) → v < 1024 → getD l v 0 ≤ 262144
+Few = Below 262144
 
 -- what the four lanes of v hold together
 abbrev pub joined : List ℕ → ℕ → ℕ
@@ -85,6 +95,30 @@ admitted d c p = ltb (c .value) (d p) || (eqb (c .value) (d p) && ltb (hits d p 
 abbrev pub next : Leader → Bool → ℕ → ℕ → Leader
 next b ok o x = cond ok (cond (leb (b .top) x) (record { place = o; top = x + 1 }) b) b
 
+-- one more than the guide of the candidate that leads, 0 before the first
+abbrev pub topOf : (ℕ → ℕ) → List ℕ → ℕ
+topOf g [] = 0
+topOf g (p ∷ l) = g (best g p l) + 1
+
+-- the candidate of a list that leads
+abbrev pub kept : (ℕ → ℕ) → List ℕ → Leader
+kept g l = record { place = brightest g l; top = topOf g l }
+
+-- the walk has come to position p: what is kept of the candidates before p, and how many before p stand at the cutoff
+pub record Walked (frame : List ℕ) (work : List ℤ) (c : Cut) (p : ℕ) (b : Walk) : Type 0 where
+  pub leads : b .leader ≡ kept (λ o. guide (pixelAt frame o)) (keep (admitted (value work) c) (upto p))
+  pub level : b .seen ≡ hits (value work) p (c .value)
+  pub inside : b .leader .place < max 1 p
+
+-- and can go on over the n positions from `first` on
+abbrev pub Walkable : List ℕ → List ℤ → Cut → ℕ → ℕ → Walk → Type 0
+Walkable frame work c first n b =
+    (first + n ≤ 262144) × (3 * (first + n) ≤ length frame) × (first + n ≤ length work) × ByteEntries (first + n) work × Walked frame work c first b
+
+-- no dark value of a row is above the row's entry
+abbrev pub Topped : (ℕ → ℕ) → ℕ → ℕ → List ℕ → Type 0
+Topped d w h tops = (y x : ℕ) → y < h → x < w → d (y * w + x) ≤ getD tops y 0
+
 -- the position that is chosen
 pub record Chosen (frame : List ℕ) (work : List ℤ) (n : ℕ) (c : Cut) (r : ℕ) : Type 0 where
   pub inside : r < n
@@ -92,11 +126,32 @@ pub record Chosen (frame : List ℕ) (work : List ℤ) (n : ℕ) (c : Cut) (r : 
 
 -- ---- the whole
 
--- the dark values of the pixels, in row order at the work area's start; all past the call's own part is as it was
-pub record DarkPlane (z : Size) (k : Settings) (frame : List ℕ) (w v : List ℤ) : Type 0 where
-  pub is : (p : ℕ) → p < z .w * z .h → getD v p (pos 0) ≡ pos (at (described z) (dark (described z) (k .s) (pixels (described z) frame)) p)
-  pub small : (p : ℕ) → at (described z) (dark (described z) (k .s) (pixels (described z) frame)) p ≤ 255
-  pub rest : SameFrom w v (room (described z))
+-- the dark value of the pixel at position p
+abbrev pub darkAt : Shape → ℕ → List ℕ → ℕ → ℕ
+darkAt z s frame = at z (dark z s (pixels z frame))
+
+-- the dark values of the pixels, in row order at the work area's start
+pub record DarkPlane (z : Size) (k : Settings) (frame : List ℕ) (v : List ℤ) : Type 0 where
+  pub is : (p : ℕ) → p < z .w * z .h → getD v p (pos 0) ≡ pos (darkAt (described z) (k .s) frame p)
+  pub small : (p : ℕ) → darkAt (described z) (k .s) frame p ≤ 255
+
+-- the dark values D of the first n rows are stored, counted and bounded; past the plane m is l
+pub record DarkTo (z : Shape) (D : ℕ → ℕ) (l m : List ℤ) (apart tops : List ℕ) (n : ℕ) : Type 0 where
+  pub plane : (p : ℕ) → p < n * z .w → getD m p (pos 0) ≡ pos (D p)
+  pub rest : SameFrom l m (z .w * z .h)
+  pub counts : Starts (hits (lane D) (n * z .w)) 1024 apart
+  pub bounds : Topped D (z .w) n tops
+
+-- all rows: the plane, the counts and the bounds
+pub record Darkened (z : Size) (k : Settings) (frame : List ℕ) (v : List ℤ) (apart tops : List ℕ) : Type 0 where
+  pub plane : DarkPlane z k frame v
+  pub counts : Starts (hits (lane (value v)) (z .w * z .h)) 1024 apart
+  pub bounds : Topped (value v) (z .w) (z .h) tops
+
+-- the pixel at r gives the light
+pub record Picked (z : Size) (k : Settings) (frame : List ℕ) (r : ℕ) : Type 0 where
+  pub inside : r < z .w * z .h
+  pub gives : lifted (pixelAt frame r) ≡ light (described z) k (pixels (described z) frame)
 
 -- the light, and the work area wiped
 pub record Finds (z : Size) (k : Settings) (frame : List ℕ) (work : List ℤ) (r : Rgb) (work′ : List ℤ) : Type 0 where

@@ -1,14 +1,19 @@
-// The ambient light of a frame: the dark values by the window minimum, a count for each of their 256 values, the cutoff, the brightest candidate.
+// The ambient light of a frame: row by row the dark values by the window minimum and a count for each of their 256 values, then the cutoff and the
+// brightest candidate.
 ghost use mathlib.Core.Path.{_≡_};
 ghost use mathlib.Core.Bool.{cond, _&&_, _||_};
-ghost use Prim.Native.Nat.{_+_, _*_, _/_, _≤_, _<_, max};
+ghost use mathlib.Core.List.{List};
+ghost use Prim.Native.Nat.{ℕ, _+_, _-_, _*_, _/_, _≤_, _<_, max};
 ghost use lib.Dec.{ltb, eqb};
 ghost use lib.ListN.{length, getD};
-ghost use lib.IntN.{pos};
+ghost use lib.IntN.{ℤ, pos};
+ghost use Rattle.rules.specs.Shape.{described};
 ghost use Rattle.rules.specs.Light.{darkest, lifted, guide};
 ghost use Rattle.rules.specs.Buffers.{pixelAt};
-ghost use Rattle.rules.specs.Good.{AcceptedLight};
-ghost use Rattle.light.specs.Steps.{value, ByteEntries, Filled, Starts, hits, Tallied, lane, Few, joined, atLeast, CutAt, next, Chosen, DarkPlane, Finds};
+ghost use Rattle.rules.specs.Good.{GoodSize, AcceptedLight};
+ghost use Rattle.planes.specs.Cells.{SameFrom};
+ghost use Rattle.columns.specs.Down.{RowIs};
+ghost use Rattle.light.specs.Steps.{value, ByteEntries, Starts, Below, hits, lane, Few, joined, atLeast, CutAt, next, Walked, Walkable, Chosen, Topped, leastAlong, RowPut, DarkTo, Darkened, Picked, Finds};
 use rules::Rgb;
 use rules::Settings;
 use rules::Size;
@@ -25,6 +30,12 @@ struct Leader {
     top: u64,
 }
 
+// A walk over the positions: the candidate that leads, and how many have been seen at the cutoff.
+struct Walk {
+    leader: Leader,
+    seen: usize,
+}
+
 fn whole(x: u32) -> usize
     ensures { λ r. ⌜ (r ≡ x) × (r ≤ 4294967295) ⌝ }
 {
@@ -36,15 +47,6 @@ fn lift(x: u8) -> u8
     ensures { λ r. ⌜ r ≡ max 1 x ⌝ }
 {
     if x < 1 { 1 } else { x }
-}
-
-// The least byte of the pixel at p.
-fn darkest_at(frame: &[u8], p: usize) -> i64
-    requires { ⌜ 3 * p + 3 ≤ length (now frame) ⌝ }
-    ensures { λ r. ⌜ r ≡ pos (darkest (pixelAt (now (frame .entry)) p)) ⌝ }
-{
-    let i = pixel::pixel_at(frame, p);
-    pixel::darkest_of(i) as i64
 }
 
 // The light that the pixel at p gives.
@@ -59,15 +61,145 @@ fn colour(frame: &[u8], p: usize) -> Rgb
     Rgb { r: r, g: g, b: b }
 }
 
-// The least byte of each pixel, at the work area's start.
-fn fill(frame: &[u8], work: &mut [i64], n: usize)
-    requires { ⌜ (3 * n ≤ length (now frame)) × (n ≤ length (now work)) ⌝ }
-    ensures { λ _. ⌜ Filled (now (frame .entry)) n (now (work .entry)) (now (work .exit)) ⌝ }
+// The least bytes of n pixels from position p of the frame on.
+fn least_row(row: &mut [u16], frame: &[u8], p: usize, n: usize)
+    requires { ⌜ (n ≤ length (now row)) × (3 * (p + n) ≤ length (now frame)) ⌝ }
+    ensures { λ _. ⌜ ((x : ℕ) → x < n → getD (now (row .exit)) x 0 ≡ darkest (pixelAt (now (frame .entry)) (p + x))) ⌝ }
 {
-    let mut p = 0;
-    while p < n {
-        work[p] = darkest_at(frame, p);
-        p += 1;
+    let mut x = 0;
+    while x < n {
+        row[x] = pixel::darkest_of(pixel::pixel_at(frame, p + x)) as u16;
+        x += 1;
+    }
+}
+
+// Step i of the minimum has row i of the frame, if there is one: its least bytes, each over its window along the row.
+fn take_row(
+    frame: &[u8],
+    z: Size,
+    i: usize,
+    s: usize,
+    row: &mut [u16],
+    p: &mut [u16],
+    q: &mut [u16],
+)
+    requires { ⌜ GoodSize (described z) × (s ≤ 30) × (length (now frame) ≡ 3 * (z .w * z .h)) ⌝ }
+    requires { ⌜ (length (now row) ≡ 1024) × (length (now p) ≡ 1024) × (length (now q) ≡ 1024) ⌝ }
+    ensures { λ _. ⌜ (i < z .h → RowIs (now (row .exit)) (leastAlong (described z) s (now (frame .entry))) i (z .w)) ⌝ }
+{
+    let w = z.w;
+    let h = z.h;
+    if h <= i {
+        return;
+    }
+    least_row(row, frame, i * w, w);
+    windows::shrink(row, w, s, p, q);
+}
+
+// The dark values d of n pixels go to the work area, from `to` on.
+fn store_row(work: &mut [i64], to: usize, n: usize, d: &[u16])
+    requires { ⌜ (to + n ≤ length (now work)) × (n ≤ length (now d)) ⌝ }
+    ensures { λ _. ⌜ RowPut (now (work .entry)) (now (work .exit)) to (λ x. getD (now (d .entry)) x 0) n ⌝ }
+{
+    let mut x = 0;
+    while x < n {
+        work[to + x] = d[x] as i64;
+        x += 1;
+    }
+}
+
+// The dark values d of the n positions from `first` on are counted. Each value has four lanes, and neighbours are counted in different ones, so that
+// equal neighbours do not wait for each other.
+fn tally_row(d: &[u16], first: usize, n: usize, apart: &mut [u32])
+    requires { ⌜ (n ≤ length (now d)) × (first + n ≤ 262144) × ((x : ℕ) → x < n → getD (now d) x 0 ≤ 255) × (length (now apart) ≡ 1024) × Below first (now apart) ⌝ }
+    ensures { λ _. ⌜ ((D : ℕ → ℕ) → Starts (hits (lane D) first) 1024 (now (apart .entry)) → ((x : ℕ) → x < n → getD (now (d .entry)) x 0 ≡ D (first + x))
+        → Starts (hits (lane D) (first + n)) 1024 (now (apart .exit))) ⌝ }
+{
+    let mut x = 0;
+    while x < n {
+        let i = 4 * (d[x] as usize) + (first + x) % 4;
+        apart[i] = apart[i] + 1;
+        x += 1;
+    }
+}
+
+fn larger(x: u16, y: u16) -> u16
+    ensures { λ r. ⌜ r ≡ max x y ⌝ }
+{
+    if x < y { y } else { x }
+}
+
+// The greatest of the first n.
+fn greatest(d: &[u16], n: usize) -> u16
+    requires { ⌜ n ≤ length (now d) ⌝ }
+    ensures { λ r. ⌜ ((x : ℕ) → x < n → getD (now (d .entry)) x 0 ≤ r) ⌝ }
+{
+    let mut m = 0;
+    let mut x = 0;
+    while x < n {
+        m = larger(m, d[x]);
+        x += 1;
+    }
+    m
+}
+
+// Step i of the minimum gives row i - s of the frame, from step s on: its dark values are stored and counted, and the greatest is noted.
+fn give_row(
+    work: &mut [i64],
+    z: Size,
+    i: usize,
+    s: usize,
+    d: &[u16],
+    apart: &mut [u32],
+    tops: &mut [u16],
+)
+    requires { ⌜ GoodSize (described z) × (i < z .h + s) × (z .w * z .h ≤ length (now work)) × (length (now apart) ≡ 1024) × (length (now tops) ≡ 1024) ⌝ }
+    requires { ⌜ (z .w ≤ length (now d)) × (s ≤ i → (x : ℕ) → x < z .w → getD (now d) x 0 ≤ 255) × Below ((i - s) * z .w) (now apart) ⌝ }
+    ensures { λ _. ⌜ ((D : ℕ → ℕ) (l : List ℤ) → DarkTo (described z) D l (now (work .entry)) (now (apart .entry)) (now (tops .entry)) (i - s)
+        → (s ≤ i → (x : ℕ) → x < z .w → getD (now (d .entry)) x 0 ≡ D ((i - s) * z .w + x))
+        → DarkTo (described z) D l (now (work .exit)) (now (apart .exit)) (now (tops .exit)) (i + 1 - s)) ⌝ }
+{
+    if i < s {
+        return;
+    }
+    let w = z.w;
+    let y = i - s;
+    let first = y * w;
+    store_row(work, first, w, d);
+    tally_row(d, first, w, apart);
+    tops[y] = greatest(d, w);
+}
+
+// The dark value of each pixel, at the work area's start, with the counts in their lanes, all 0 before, and a bound of each row.
+fn darks(z: Size, k: Settings, frame: &[u8], work: &mut [i64], apart: &mut [u32], tops: &mut [u16])
+    requires { ⌜ AcceptedLight z k (length (now frame)) (length (now work)) × (length (now apart) ≡ 1024) × (length (now tops) ≡ 1024) × Starts (λ v. 0) 1024 (now apart) ⌝ }
+    ensures dark { λ _. ⌜ Darkened z k (now (frame .entry)) (now (work .exit)) (now (apart .exit)) (now (tops .exit)) ⌝ }
+    ensures rest { λ _. ⌜ SameFrom (now (work .entry)) (now (work .exit)) (z .w * z .h) ⌝ }
+{
+    let mut row = [0u16; 1024];
+    let mut p = [0u16; 1024];
+    let mut q = [0u16; 1024];
+    let mut store = [0u16; 62464];
+    let mut ahead = [0u16; 1024];
+    let mut out = [0u16; 1024];
+    let w = z.w;
+    let h = z.h;
+    let s = k.s;
+    let mut i = 0;
+    while i < h + s {
+        take_row(frame, z, i, s, &mut row[..], &mut p[..], &mut q[..]);
+        columns::down(
+            &row[..],
+            i,
+            h,
+            w,
+            s,
+            &mut store[..],
+            &mut ahead[..],
+            &mut out[..],
+        );
+        give_row(work, z, i, s, &out[..], apart, tops);
+        i += 1;
     }
 }
 
@@ -77,20 +209,6 @@ fn level(work: &[i64], p: usize) -> usize
     ensures { λ r. ⌜ r ≡ value (now (work .entry)) p ⌝ }
 {
     work[p] as usize
-}
-
-// Each value has four lanes, and neighbours are counted in different ones, so that equal neighbours do not wait for each other. The counts are
-// 0 before.
-fn tally_apart(work: &[i64], n: usize, apart: &mut [u32])
-    requires { ⌜ (n ≤ length (now work)) × (n ≤ 262144) × ByteEntries n (now work) × (length (now apart) ≡ 1024) × Starts (λ v. 0) 1024 (now apart) ⌝ }
-    ensures { λ _. ⌜ Starts (hits (lane (value (now (work .entry)))) n) 1024 (now (apart .exit)) ⌝ }
-{
-    let mut p = 0;
-    while p < n {
-        let i = 4 * level(work, p) + p % 4;
-        apart[i] = apart[i] + 1;
-        p += 1;
-    }
 }
 
 // What the four lanes of v hold together.
@@ -112,16 +230,6 @@ fn join(apart: &[u32], counts: &mut [u32])
         counts[v] = together(apart, v);
         v += 1;
     }
-}
-
-// How many of the first n entries have each value.
-fn tally(work: &[i64], n: usize, counts: &mut [u32])
-    requires { ⌜ (n ≤ length (now work)) × (n ≤ 262144) × ByteEntries n (now work) × (length (now counts) ≡ 256) ⌝ }
-    ensures { λ _. ⌜ Tallied (value (now (work .entry))) n (now (counts .exit)) ⌝ }
-{
-    let mut apart = [0; 1024];
-    tally_apart(work, n, &mut apart[..]);
-    join(&apart[..], counts);
 }
 
 // The greatest value that at least m pixels are at or above. 256 counts of 32 bits say at most 2^40.
@@ -191,24 +299,67 @@ fn better(b: Leader, ok: bool, frame: &[u8], p: usize) -> Leader
     b
 }
 
-// The position of the brightest candidate, the first on a tie.
-fn choose(frame: &[u8], work: &[i64], n: usize, cut: Cut) -> usize
-    requires { ⌜ (0 < n) × (n ≤ 262144) × (3 * n ≤ length (now frame)) × (n ≤ length (now work)) × ByteEntries n (now work) ⌝ }
-    ensures { λ r. ⌜ Chosen (now (frame .entry)) (now (work .entry)) n cut r ⌝ }
+// The walk goes on over the n positions from `first` on.
+fn walk_row(frame: &[u8], work: &[i64], first: usize, n: usize, cut: Cut, b: Walk) -> Walk
+    requires { ⌜ Walkable (now frame) (now work) cut first n b ⌝ }
+    ensures { λ r. ⌜ Walked (now (frame .entry)) (now (work .entry)) cut (first + n) r ⌝ }
 {
     let value = cut.value;
     let ties = cut.ties;
-    let mut leader = Leader { place: 0, top: 0 };
-    let mut seen = 0;
-    let mut p = 0;
-    while p < n {
+    let mut leader = b.leader;
+    let mut seen = b.seen;
+    let mut p = first;
+    while p < first + n {
         let d = level(work, p);
         let ok = admits(d, value, seen, ties);
         leader = better(leader, ok, frame, p);
         seen = seen_now(d, value, seen);
         p += 1;
     }
-    leader.place
+    Walk {
+        leader: leader,
+        seen: seen,
+    }
+}
+
+// A row whose greatest dark value, `top`, is below the cutoff has no candidate and is passed over.
+fn choose_row(
+    frame: &[u8],
+    work: &[i64],
+    first: usize,
+    n: usize,
+    cut: Cut,
+    top: u16,
+    b: Walk,
+) -> Walk
+    requires { ⌜ Walkable (now frame) (now work) cut first n b ⌝ }
+    requires { ⌜ ((x : ℕ) → x < n → value (now work) (first + x) ≤ top) ⌝ }
+    ensures { λ r. ⌜ Walked (now (frame .entry)) (now (work .entry)) cut (first + n) r ⌝ }
+{
+    if (top as usize) < cut.value {
+        return b;
+    }
+    walk_row(frame, work, first, n, cut, b)
+}
+
+// The position of the brightest candidate, the first on a tie. `tops` has a bound of each row's dark values.
+fn choose(frame: &[u8], work: &[i64], z: Size, cut: Cut, tops: &[u16]) -> usize
+    requires { ⌜ GoodSize (described z) × (3 * (z .w * z .h) ≤ length (now frame)) × (z .w * z .h ≤ length (now work)) × ByteEntries (z .w * z .h) (now work) ⌝ }
+    requires { ⌜ (z .h ≤ length (now tops)) × Topped (value (now work)) (z .w) (z .h) (now tops) ⌝ }
+    ensures { λ r. ⌜ Chosen (now (frame .entry)) (now (work .entry)) (z .w * z .h) cut r ⌝ }
+{
+    let w = z.w;
+    let h = z.h;
+    let mut b = Walk {
+        leader: Leader { place: 0, top: 0 },
+        seen: 0,
+    };
+    let mut y = 0;
+    while y < h {
+        b = choose_row(frame, work, y * w, w, cut, tops[y], b);
+        y += 1;
+    }
+    b.leader.place
 }
 
 // How many candidates there are.
@@ -220,17 +371,17 @@ fn candidates(n: usize, share: u64) -> usize
     if m < 1 { 1 } else { m }
 }
 
-// The dark value of each pixel, at the work area's start.
-fn darks(z: Size, k: Settings, frame: &[u8], work: &mut [i64])
-    requires { ⌜ AcceptedLight z k (length (now frame)) (length (now work)) ⌝ }
-    ensures { λ _. ⌜ DarkPlane z k (now (frame .entry)) (now (work .entry)) (now (work .exit)) ⌝ }
+// The position of the pixel that gives the light, from the dark values, their counts and their bounds.
+fn pick(z: Size, k: Settings, frame: &[u8], work: &[i64], apart: &[u32], tops: &[u16]) -> usize
+    requires { ⌜ AcceptedLight z k (length (now frame)) (length (now work)) × (length (now apart) ≡ 1024) × (length (now tops) ≡ 1024)
+        × Darkened z k (now frame) (now work) (now apart) (now tops) ⌝ }
+    ensures { λ r. ⌜ Picked z k (now (frame .entry)) r ⌝ }
 {
-    let w = z.w;
-    let h = z.h;
-    let s = k.s;
-    let n = w * h;
-    fill(frame, work, n);
-    windows::minima(work, 0, w, w, h, s, n);
+    let m = candidates(z.w * z.h, k.share);
+    let mut counts = [0u32; 256];
+    join(apart, &mut counts[..]);
+    let cut = cutoff(&counts[..], m);
+    choose(frame, work, z, cut, tops)
 }
 
 // The light of a frame, for a call that is not refused. The work area is wiped.
@@ -240,14 +391,10 @@ pub fn find(z: Size, k: Settings, frame: &[u8], work: &mut [i64]) -> Rgb
 {
     let w = z.w;
     let h = z.h;
-    let share = k.share;
-    let n = w * h;
-    darks(z, k, frame, work);
-    let m = candidates(n, share);
-    let mut counts = [0; 256];
-    tally(&work[..], n, &mut counts[..]);
-    let cut = cutoff(&counts[..], m);
-    let p = choose(frame, &work[..], n, cut);
+    let mut apart = [0u32; 1024];
+    let mut tops = [0u16; 1024];
+    darks(z, k, frame, work, &mut apart[..], &mut tops[..]);
+    let p = pick(z, k, frame, &work[..], &apart[..], &tops[..]);
     planes::wipe(work, 8 * ((w + 1) * (h + 1)));
     colour(frame, p)
 }

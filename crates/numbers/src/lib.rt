@@ -2,7 +2,6 @@
 // `lesser` stands once for each width in use.
 ghost use mathlib.Core.Path.{_≡_};
 ghost use Prim.Native.Nat.{_+_, _-_, _≤_, min};
-ghost use Rattle.numbers.specs.Lower.{lower};
 
 // a - b, and 0 where b is larger.
 pub fn less(a: usize, b: usize) -> usize
@@ -25,14 +24,20 @@ pub fn lesser_u16(x: u16, y: u16) -> u16
     if x <= y { x } else { y }
 }
 
+pub fn lesser_u32(x: u32, y: u32) -> u32
+    ensures { λ r. ⌜ r ≡ min x y ⌝ }
+{
+    if y < x { y } else { x }
+}
+
 pub fn lesser_u64(x: u64, y: u64) -> u64
     ensures { λ r. ⌜ r ≡ min x y ⌝ }
 {
     if x <= y { x } else { y }
 }
 
-pub fn lesser_i64(x: i64, y: i64) -> i64
-    ensures { λ r. ⌜ r ≡ lower x y ⌝ }
+pub fn lesser_usize(x: usize, y: usize) -> usize
+    ensures { λ r. ⌜ r ≡ min x y ⌝ }
 {
-    if y < x { y } else { x }
+    if x <= y { x } else { y }
 }

@@ -2,4 +2,5 @@
 pub mod Sizes
 pub mod Signs
 pub mod Fractions
-pub mod Scales
+pub mod Scaled
+pub mod Sampled

@@ -1,13 +1,13 @@
 -- The sizes of a window's line, from the sizes of its sums; and what holds of held values. Assumes nothing.
 use mathlib.Core.Path.{_≡_}
-use Prim.Native.Nat.{ℕ, _≤_, _<_, _*_, _/_, min}
+use Prim.Native.Nat.{ℕ, _+_, _-_, _*_, _/_, _≤_, _<_, min}
 use lib.IntN.{ℤ, pos, negsuc, natAbs, _+ℤ_, _-ℤ_, _*ℤ_}
 use lib.Signed.{shrZ}
 use native.Mathlib.Nat.{mul-le-mul, mul-le-mul-left, zero-div, mul-div-cancel, le-div-iff-mul-le, div-lt-iff-lt-mul, div-div-eq-div-mul}
 use native.Mathlib.Decide.{decLe}
 use native.Mathlib.Omega.{arith}
 use Rattle.rules.specs.Transmission.{P, Q, slopeOf, refineOf, held}
-use Rattle.rules.proofs.Integers.{natAbs-*, natAbs--, natAbs-+, dif-le, shr-le}
+use Rattle.rules.proofs.Integers.{natAbs-*, natAbs--, natAbs-+, natAbs-dif, dif-le, shr-le}
 use Rattle.pixel.specs.Moments.{Moments}
 
 -- what the products come to. `omega` reads the fields by itself
@@ -22,6 +22,10 @@ pub record Sizes (n sg st sgg sgt e : ℕ) : Type 0 where
   pub nn-le : n * n ≤ n * n * e
   pub p-le : natAbs (P n sg st sgt) ≤ 7650000 * (n * n)
   pub k-le : natAbs (pos 1024 *ℤ P n sg st sgt) ≤ 7833600000 * (n * n)
+  pub k-near : natAbs (pos 1024 *ℤ P n sg st sgt) ≤ 2560000 * (n * sgg - sg * sg + n * n)
+
+near-le : (a b M : ℕ) → a ≤ b + M → b ≤ a + M → natAbs (pos a -ℤ pos b) ≤ M
+near-le a b M h k = rw (natAbs-dif a b) (omega arith)
 
 pub sizes : (n sg st sgg sgt e : ℕ) → Moments n sg st sgg sgt → 0 < e → e ≤ 585225 → Sizes n sg st sgg sgt e
 sizes n sg st sgg sgt e m e0 e1 =
@@ -39,17 +43,18 @@ sizes n sg st sgg sgt e m e0 e1 =
       nn-le = omega (arith, mul-le-mul-left (n * n) e0);
       p-le = p-le;
       k-le = omega (arith, natAbs-* (pos 1024) (P n sg st sgt), p-le);
+      k-near = omega (arith, natAbs-* (pos 1024) (P n sg st sgt), near-le (n * sgt) (sg * st) (2500 * (n * sgg - sg * sg + n * n)) (m .rise) (m .fall));
     }
 
-pub slope-small : (n sg st sgg sgt e : ℕ) → Sizes n sg st sgg sgt e → natAbs (slopeOf n sg st sgg sgt e) ≤ 7833600000
-slope-small n sg st sgg sgt e z = shr-le (pos 1024 *ℤ P n sg st sgt) (Q n sg sgg e) 7833600000 (omega arith) (omega arith)
+pub slope-small : (n sg st sgg sgt e : ℕ) → Sizes n sg st sgg sgt e → natAbs (slopeOf n sg st sgg sgt e) ≤ 2560000
+slope-small n sg st sgg sgt e z = shr-le (pos 1024 *ℤ P n sg st sgt) (Q n sg sgg e) 2560000 (omega arith) (omega (arith, z .k-near, z .nn-le))
 
 -- ---- the offset's numerator, and the refined value's
 
-pub offset-top : (n sg st : ℕ) (a : ℤ) → sg ≤ 765 * n → st ≤ 10000 * n → natAbs a ≤ 7833600000 → natAbs (pos (1024 * st) -ℤ a *ℤ pos sg) ≤ 7000000000000 * n
+pub offset-top : (n sg st : ℕ) (a : ℤ) → sg ≤ 765 * n → st ≤ 10000 * n → natAbs a ≤ 2560000 → natAbs (pos (1024 * st) -ℤ a *ℤ pos sg) ≤ 1968640000 * n
 offset-top n sg st a hg ht ha = omega (arith, natAbs-- (pos (1024 * st)) (a *ℤ pos sg), natAbs-* a (pos sg), mul-le-mul ha hg)
 
-pub refined-top : (n g : ℕ) (sa sb : ℤ) → g ≤ 765 → natAbs sa ≤ 7833600000 * n → natAbs sb ≤ 7000000000000 * n → natAbs (sa *ℤ pos g +ℤ sb) ≤ 12992704000000 * n
+pub refined-top : (n g : ℕ) (sa sb : ℤ) → g ≤ 765 → natAbs sa ≤ 2560000 * n → natAbs sb ≤ 2147483648 * n → natAbs (sa *ℤ pos g +ℤ sb) ≤ 4105883648 * n
 refined-top n g sa sb hg ha hb = omega (arith, natAbs-+ (sa *ℤ pos g) sb, natAbs-* sa (pos g), mul-le-mul ha hg)
 
 -- ---- what is held is at most the top
@@ -63,7 +68,7 @@ refined-le n sa sb g = held-le 10000 (shrZ (sa *ℤ pos g +ℤ sb) (1024 * n))
 
 -- ---- and a value may be held before it is divided
 
-cut-first : (top m a : ℕ) → 0 < m → min a (top * m) / m ≡ min (a / m) top
+pub cut-first : (top m a : ℕ) → 0 < m → min a (top * m) / m ≡ min (a / m) top
 cut-first top m a h = go (decLe (top * m) a)
   where
     go : Dec (top * m ≤ a) → min a (top * m) / m ≡ min (a / m) top

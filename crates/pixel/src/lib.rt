@@ -1,19 +1,21 @@
-// One pixel's arithmetic, as document 01 has it. Every division that is made for each pixel is here, each in one function, and in 32 bits
-// where the numbers are small, since that is quicker. The library's other divisions: a share of the pixels once a call (`light`), two of doubles
-// (`bands`), halves in a search (`depth`), tenths of a number that is written (`fields`).
+// One pixel's arithmetic, as document 01 has it. The one division that every pixel has is that of its slope. What else is divided by is the same
+// for many pixels (a light, the size of a window, a transmission): one division makes its scale, and each quotient is then a product. The library's
+// other divisions: a share of the pixels once a call (`light`), two of doubles (`bands`), halves in a search (`depth`), tenths of a number that is
+// written (`fields`).
 ghost use mathlib.Core.Path.{_≡_};
 ghost use mathlib.Core.Bool.{true, false, cond};
-ghost use Prim.Native.Nat.{_+_, _*_, _/_, _^_, _≤_, _<_, min, max};
+ghost use Prim.Native.Nat.{ℕ, _+_, _-_, _*_, _/_, _^_, _≤_, _<_, min, max};
 ghost use lib.ListN.{length};
-ghost use lib.IntN.{pos, natAbs};
-ghost use lib.Signed.{shrZ, ltZ};
+ghost use lib.IntN.{pos, negsuc, natAbs, _+ℤ_, _-ℤ_, _*ℤ_};
+ghost use lib.Signed.{shrZ, ltZ, mag};
 ghost use Rattle.rules.specs.Good.{GoodLight};
 ghost use Rattle.rules.specs.Light.{darkest, guide};
 ghost use Rattle.rules.specs.Transmission.{ratio, leastRatio, coarseOf, slopeOf, offsetOf, refineOf, held};
-ghost use Rattle.rules.specs.Picture.{rounded, recover, haze};
+ghost use Rattle.rules.specs.Picture.{recover, haze};
 ghost use Rattle.rules.specs.Buffers.{pixelAt};
 ghost use Rattle.pixel.specs.Moments.{Moments};
-ghost use Rattle.pixel.specs.Over.{Over};
+ghost use Rattle.pixel.specs.Over.{Over, parts, ScaledBy, Under};
+use numbers::lesser_u32;
 use numbers::lesser_u64;
 use rules::Rgb;
 
@@ -48,29 +50,58 @@ pub fn guide_of(i: Rgb) -> u64
 
 // ---- from light to transmission
 
-// Ratio of a byte i under light a.
-fn ratio_of(i: u8, a: u8) -> u64
-    requires { ⌜ 0 < a ⌝ }
-    ensures { λ r. ⌜ r ≡ ratio i a ⌝ }
-{
-    lesser_u64((10000 * (i as u32) / (a as u32)) as u64, 10000)
+// What bytes under the three channels of a light are multiplied by for their ratios, in 65,536ths.
+pub struct Scales {
+    pub r: u32,
+    pub g: u32,
+    pub b: u32,
 }
 
-// A byte over the light of its channel.
+// What a byte under the light a is multiplied by for its ratio, in 65,536ths.
+pub fn light_scale(a: u8) -> u32
+    requires { ⌜ 0 < a ⌝ }
+    ensures { λ r. ⌜ Over 10000 a 65536 r ⌝ }
+{
+    655360000 / (a as u32) + 1
+}
+
+// A byte over the light of its channel, and the light's scale.
 struct Fraction {
-    i: u8,
-    a: u8,
+    i: u32,
+    a: u32,
+    k: u32,
+}
+
+// The byte i over the light a.
+fn over_light(i: u8, a: u8, k: u32) -> Fraction
+    requires { ⌜ (0 < a) × Over 10000 a 65536 k ⌝ }
+    ensures { λ r. ⌜ Under (r .i) (r .a) (r .k) × (ratio (r .i) (r .a) ≡ ratio i a) ⌝ }
+{
+    Fraction {
+        i: i as u32,
+        a: a as u32,
+        k,
+    }
+}
+
+// Ratio of a byte i under light a, by the light's scale.
+fn ratio_of(i: u32, a: u32, k: u32) -> u64
+    requires { ⌜ Under i a k ⌝ }
+    ensures { λ r. ⌜ r ≡ ratio i a ⌝ }
+{
+    (lesser_u32(i, a) * k / 65536) as u64
 }
 
 // The product of two bytes.
-fn product(i: u8, a: u8) -> u32
+fn product(i: u32, a: u32) -> u32
+    requires { ⌜ (i ≤ 255) × (a ≤ 255) ⌝ }
     ensures { λ r. ⌜ r ≡ i * a ⌝ }
 {
-    (i as u32) * (a as u32)
+    i * a
 }
 
-// The second byte if it is asked for, else the first. A fraction is chosen byte by byte with it, since the compiler makes no branch of that.
-fn chosen(second: bool, x: u8, y: u8) -> u8
+// The second number if it is asked for, else the first. A fraction is chosen number by number with it, since the compiler makes no branch of that.
+fn chosen(second: bool, x: u32, y: u32) -> u32
     ensures { λ r. ⌜ r ≡ cond second y x ⌝ }
 {
     if second { y } else { x }
@@ -78,6 +109,7 @@ fn chosen(second: bool, x: u8, y: u8) -> u8
 
 // Whether x is the smaller of two fractions, told by their cross products; of equal ones either may be said to be.
 fn is_smaller(x: Fraction, y: Fraction) -> bool
+    requires { ⌜ Under (x .i) (x .a) (x .k) × Under (y .i) (y .a) (y .k) ⌝ }
     ensures { λ r. ⌜ (r ≡ true → x .i * y .a ≤ y .i * x .a) × (r ≡ false → y .i * x .a ≤ x .i * y .a) ⌝ }
 {
     product(x.i, y.a) < product(y.i, x.a)
@@ -85,26 +117,27 @@ fn is_smaller(x: Fraction, y: Fraction) -> bool
 
 // The smaller of two fractions.
 fn smaller(x: Fraction, y: Fraction) -> Fraction
-    requires { ⌜ (0 < x .a) × (0 < y .a) ⌝ }
-    ensures { λ r. ⌜ (0 < r .a) × (ratio (r .i) (r .a) ≡ min (ratio (x .i) (x .a)) (ratio (y .i) (y .a))) ⌝ }
+    requires { ⌜ Under (x .i) (x .a) (x .k) × Under (y .i) (y .a) (y .k) ⌝ }
+    ensures { λ r. ⌜ Under (r .i) (r .a) (r .k) × (ratio (r .i) (r .a) ≡ min (ratio (x .i) (x .a)) (ratio (y .i) (y .a))) ⌝ }
 {
     let second = is_smaller(y, x);
     Fraction {
         i: chosen(second, x.i, y.i),
         a: chosen(second, x.a, y.a),
+        k: chosen(second, x.k, y.k),
     }
 }
 
-// The least ratio over the channels: that of the smallest fraction, so one division does.
-pub fn least_ratio(i: Rgb, a: Rgb) -> u64
-    requires { ⌜ GoodLight a ⌝ }
+// The least ratio over the channels: that of the smallest fraction, by the scale of its light.
+pub fn least_ratio(i: Rgb, a: Rgb, k: Scales) -> u64
+    requires { ⌜ GoodLight a × ScaledBy a k ⌝ }
     ensures { λ r. ⌜ r ≡ leastRatio a i ⌝ }
 {
-    let red = Fraction { i: i.r, a: a.r };
-    let green = Fraction { i: i.g, a: a.g };
-    let blue = Fraction { i: i.b, a: a.b };
+    let red = over_light(i.r, a.r, k.r);
+    let green = over_light(i.g, a.g, k.g);
+    let blue = over_light(i.b, a.b, k.b);
     let least = smaller(red, smaller(green, blue));
-    ratio_of(least.i, least.a)
+    ratio_of(least.i, least.a, least.k)
 }
 
 // Coarse transmission, from the least ratio d of a window.
@@ -115,59 +148,74 @@ pub fn coarse_of(omega: u64, d: u64) -> u64
     (10000 - (omega as u32) * (d as u32) / 10000) as u64
 }
 
-// The quotient of two natural numbers.
-fn quotient(n: u64, q: u64) -> u64
-    requires { ⌜ 0 < q ⌝ }
-    ensures { λ r. ⌜ (r ≡ n / q) × (r ≤ n) ⌝ }
+// How far p is from 0, and below 0 from -1.
+fn size_of(p: i64) -> u64
+    ensures { λ r. ⌜ r ≡ mag p ⌝ }
 {
-    n / q
+    if p < 0 { (0 - 1 - p) as u64 } else { p as u64 }
 }
 
-// How far a p below 0 is from 0.
-fn size_below(p: i64) -> u64
-    requires { ⌜ (ltZ p (pos 0) ≡ true) × (natAbs p < 2 ^ 63) ⌝ }
-    ensures { λ r. ⌜ r ≡ natAbs p ⌝ }
+// The number that is d from 0, or below 0 from -1.
+fn signed(below: bool, d: u64) -> i64
+    requires { ⌜ d < 2 ^ 63 ⌝ }
+    ensures { λ r. ⌜ r ≡ cond below (negsuc d) (pos d) ⌝ }
 {
-    (0 - p) as u64
-}
-
-// The number that is n below 0.
-fn minus(n: u64) -> i64
-    requires { ⌜ n < 2 ^ 63 ⌝ }
-    ensures { λ r. ⌜ (natAbs r ≡ n) × (ltZ (pos 0) r ≡ false) ⌝ }
-{
-    0 - (n as i64)
+    if below { 0 - 1 - (d as i64) } else { d as i64 }
 }
 
 // The quotient rounded down.
 fn floor_div(p: i64, q: u64) -> i64
-    requires { ⌜ (0 < q) × (natAbs p < 2 ^ 63) ⌝ }
+    requires { ⌜ 0 < q ⌝ }
     ensures { λ r. ⌜ r ≡ shrZ p q ⌝ }
 {
-    if p < 0 {
-        minus(1 + quotient(size_below(p) - 1, q))
-    } else {
-        quotient(p as u64, q) as i64
-    }
+    signed(p < 0, size_of(p) / q)
 }
 
 // The slope of the line that fits a window.
 pub fn slope(n: u64, sg: u64, st: u64, sgg: u64, sgt: u64, e: u64) -> i64
     requires { ⌜ Moments n sg st sgg sgt × (0 < e) × (e ≤ 585225) ⌝ }
     ensures exact { λ r. ⌜ r ≡ slopeOf n sg st sgg sgt e ⌝ }
-    ensures small { λ r. ⌜ natAbs r ≤ 7833600000 ⌝ }
+    ensures small { λ r. ⌜ natAbs r ≤ 2560000 ⌝ }
 {
     let p = (n * sgt) as i64 - (sg * st) as i64;
     floor_div(1024 * p, n * sgg - sg * sg + n * n * e)
 }
 
-// The offset of the line that fits a window, from its slope a.
-pub fn offset(n: u64, sg: u64, st: u64, a: i64) -> i64
-    requires { ⌜ (0 < n) × (n ≤ 14641) × (sg ≤ 765 * n) × (st ≤ 10000 * n) × (natAbs a ≤ 7833600000) ⌝ }
-    ensures exact { λ r. ⌜ r ≡ offsetOf n sg st a ⌝ }
-    ensures small { λ r. ⌜ natAbs r ≤ 7000000000000 ⌝ }
+// 1 / n in 2^46ths, a little more: what x is multiplied by in place of the division by n.
+pub fn reciprocal(n: u64) -> u64
+    requires { ⌜ (0 < n) × (n ≤ 14641) ⌝ }
+    ensures { λ r. ⌜ Over 1 n parts r ⌝ }
 {
-    floor_div((1024 * st) as i64 - a * (sg as i64), n)
+    70368744177664 / n + 1
+}
+
+// x by a reciprocal. It is x / n where n * x is below 2^46.
+fn over(x: u64, inverse: u64) -> u64
+    requires { ⌜ x * inverse < 2 ^ 64 ⌝ }
+    ensures { λ r. ⌜ r ≡ x * inverse / parts ⌝ }
+{
+    x * inverse / 70368744177664
+}
+
+// y / n by the reciprocal of n: long division by two digits, the lower of 17 bits.
+fn long_over(y: u64, n: u64, inverse: u64) -> u64
+    requires { ⌜ (0 < n) × (n ≤ 14641) × Over 1 n parts inverse × (y < 4294967296 * n) ⌝ }
+    ensures { λ r. ⌜ r ≡ y / n ⌝ }
+{
+    let high = y / 131072;
+    let q = over(high, inverse);
+    let low = (high - q * n) * 131072 + y % 131072;
+    q * 131072 + over(low, inverse)
+}
+
+// The offset of the line that fits a window, from its slope a. 2^31 is added to it while it is divided, so that a natural number is.
+pub fn offset(n: u64, inverse: u64, sg: u64, st: u64, a: i64) -> i64
+    requires { ⌜ (0 < n) × (n ≤ 14641) × Over 1 n parts inverse × (sg ≤ 765 * n) × (st ≤ 10000 * n) × (natAbs a ≤ 2560000) ⌝ }
+    ensures exact { λ r. ⌜ r ≡ offsetOf n sg st a ⌝ }
+    ensures small { λ r. ⌜ natAbs r ≤ 2147483648 ⌝ }
+{
+    let y = (1024 * st + 2147483648 * n) as i64 - a * (sg as i64);
+    (long_over(y as u64, n, inverse) as i64) - 2147483648
 }
 
 // A number held into 0 .. top.
@@ -180,14 +228,22 @@ fn hold(v: i64, top: u64) -> u64
     lesser_u64(v as u64, top)
 }
 
-// The refined value of a pixel, from the sums of slopes and offsets over its window and its own guide. It is held before it is divided: the
-// division by 1024 is then a shift, and that by n is one of 32 bits.
-pub fn refined(n: u64, sa: i64, sb: i64, g: u64) -> u64
-    requires { ⌜ (0 < n) × (n ≤ 14641) × (g ≤ 765) × (natAbs sa ≤ 7833600000 * n) × (natAbs sb ≤ 7000000000000 * n) ⌝ }
-    ensures { λ r. ⌜ r ≡ refineOf n sa sb g ⌝ }
+// 1024 n times the refined value of a pixel, before it is rounded and held: from the sums of slopes and offsets over its window, and its own guide.
+fn unheld(sa: i64, sb: i64, g: u64) -> i64
+    requires { ⌜ (g ≤ 765) × (natAbs sa ≤ 37480960000) × (natAbs sb ≤ 31441308090368) ⌝ }
+    ensures { λ r. ⌜ r ≡ sa *ℤ pos g +ℤ sb ⌝ }
 {
-    let v = hold(sa * (g as i64) + sb, 10240000 * n);
-    (((v / 1024) as u32) / (n as u32)) as u64
+    sa * (g as i64) + sb
+}
+
+// The refined value of a pixel, from the sums of slopes and offsets over its window and its own guide. It is held before it is divided: the
+// division by 1024 is then a shift, and that by n is by its reciprocal.
+pub fn refined(n: u64, inverse: u64, sa: i64, sb: i64, g: u64) -> u64
+    requires { ⌜ (0 < n) × (n ≤ 14641) × Over 1 n parts inverse × (g ≤ 765) × (natAbs sa ≤ 2560000 * n) × (natAbs sb ≤ 2147483648 * n) ⌝ }
+    ensures { λ r. ⌜ (r ≡ refineOf n sa sb g) × (r ≤ 10000) ⌝ }
+{
+    let v = hold(unheld(sa, sb, g), 10240000 * n);
+    over(v / 1024, inverse)
 }
 
 // ---- from transmission to picture, and back
@@ -199,39 +255,60 @@ fn larger(x: u32, y: u32) -> u32
     if x < y { y } else { x }
 }
 
-// 10,000 / t in parts of which 2^23 make 1: the division that a pixel's three channels share. Below 39 it is as at 39, where one level
-// of distance from the light already becomes 256.
-fn scale(t: u32) -> u64
-    ensures { λ r. ⌜ Over 10000 (max t 39) 8388608 r ⌝ }
+// 10,000 / t in parts of which 2^23 make 1, a little more: the division that a pixel's three channels share. Below 39 it is as at 39, where one
+// level of distance from the light already becomes 256.
+pub fn scale(t: u32) -> u32
+    ensures { λ r. ⌜ Over 10000 (max t 39) 8388608 r × (0 < r) ⌝ }
 {
-    83886080000 / (larger(t, 39) as u64) + 1
+    (83886080000 / (larger(t, 39) as u64)) as u32 + 1
+}
+
+// How far two bytes are apart.
+fn apart(a: u8, i: u8) -> u8
+    ensures { λ r. ⌜ r ≡ (a - i) + (i - a) ⌝ }
+{
+    if i < a { a - i } else { i - a }
 }
 
 // How far a byte that is d from the light is from it without the haze, to the nearest level. What is past 255 may be any number past it.
-fn stretched(d: u32, t: u32) -> u32
-    requires { ⌜ (d ≤ 255) × (0 < t) × (t ≤ 10000) ⌝ }
-    ensures { λ r. ⌜ (min r 256 ≡ min (rounded (d * 10000) t) 256) × (r ≤ 65536) ⌝ }
+fn stretched(d: u8, scale: u32) -> i32
+    ensures { λ r. ⌜ (r ≡ pos ((d * scale + 4194304) / 8388608)) × (natAbs r ≤ 131072) ⌝ }
 {
-    (((d as u64) * scale(t) + 4194304) / 8388608) as u32
+    (((d as u64) * (scale as u64) + 4194304) / 8388608) as i32
 }
 
-// A byte without the haze: byte i under light a at transmission t.
-pub fn recovered(a: u8, i: u8, t: u64) -> u8
-    requires { ⌜ (0 < t) × (t ≤ 10000) ⌝ }
-    ensures { λ r. ⌜ r ≡ recover a i t ⌝ }
+// The light a with q taken from it, or added to it.
+fn moved(below: bool, a: u8, q: i32) -> i32
+    requires { ⌜ natAbs q ≤ 131072 ⌝ }
+    ensures { λ r. ⌜ r ≡ cond below (pos a -ℤ q) (pos a +ℤ q) ⌝ }
 {
-    let light = a as u32;
-    let byte = i as u32;
-    let whole = t as u32;
-    if light <= byte {
-        let v = light + stretched(byte - light, whole);
-        return lesser_u64(v as u64, 255) as u8;
+    if below {
+        (a as i32) - q
+    } else {
+        (a as i32) + q
     }
-    let q = stretched(light - byte, whole);
-    if q < light {
-        return (light - q) as u8;
-    }
-    0
+}
+
+// A number that is at least 0.
+fn lowest(v: i32) -> i32
+    ensures { λ r. ⌜ r ≡ cond (ltZ v (pos 0)) (pos 0) v ⌝ }
+{
+    if v < 0 { 0 } else { v }
+}
+
+// A number that is at most 255.
+fn highest(v: i32) -> i32
+    ensures { λ r. ⌜ r ≡ cond (ltZ (pos 255) v) (pos 255) v ⌝ }
+{
+    if 255 < v { 255 } else { v }
+}
+
+// A byte without the haze: byte i under light a, by the scale of the transmission. Nothing in it is a branch once it is compiled.
+pub fn recovered(a: u8, i: u8, scale: u32) -> u8
+    ensures { λ r. ⌜ ((t : ℕ) → 0 < t → t ≤ 10000 → Over 10000 (max t 39) 8388608 scale → r ≡ recover a i t) ⌝ }
+{
+    let q = stretched(apart(a, i), scale);
+    highest(lowest(moved(i < a, a, q))) as u8
 }
 
 // A byte with haze: clean byte j under light a at transmission t.

@@ -1,7 +1,5 @@
 -- Laws of the planes.
-pub mod Places
-pub mod Puts
-pub mod Planes
 pub mod Wiped
-pub mod Edges
 pub mod Shown
+pub mod Tails
+pub mod Stored

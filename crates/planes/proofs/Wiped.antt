@@ -8,7 +8,7 @@ use lib.Seq.{getD-drop, ext-getD}
 use lib.IntN.{ℤ, pos}
 use Rattle.rules.specs.Shape.{Shape, room}
 use Rattle.rules.specs.Promise.{wiped}
-use Rattle.planes.specs.Plane.{SameFrom}
+use Rattle.planes.specs.Cells.{SameFrom}
 
 pub wiped-same : (z : Shape) (l m : List ℤ) (n : ℕ) → length m ≡ length l → n ≤ room z → SameFrom l m n → wiped z m ≡ wiped z l
 unfolding wiped

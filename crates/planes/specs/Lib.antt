@@ -1,4 +1,4 @@
 -- The definitions that the contracts of the pipeline cite.
-pub mod Plane
-pub mod Put
+pub mod View
+pub mod Cells
 pub mod Stage

@@ -1,24 +1,18 @@
 -- The box law. A window of a box is the frame's window wherever the box sees as far (`window-box`), once over the radius. A rule that is boxed at q
 -- has in the box, taken as a frame, the value that it has in the frame; one after another, the distances add up (`boxed-after`).
--- The map entry and the cleared pixel are three windows, one after the other. Assumes nothing.
+-- A line is two windows, one after the other. Assumes nothing.
 use mathlib.Core.Path.{_≡_, refl, ap, ap₂, _∙_}
 use mathlib.Core.List.{List, _∷_}
-use mathlib.Core.Bool.{true}
 use Prim.Native.Nat.{ℕ, zero, suc, _+_, _-_, _*_, min, _≤_, _<_}
 use native.Mathlib.Nat.{add-suc}
 use native.Mathlib.Omega.{arith}
 use Rattle.rules.specs.Shape.{Shape}
 use Rattle.rules.specs.declared.Settings.{Settings}
 use Rattle.rules.specs.declared.Rgb.{Rgb}
-use Rattle.rules.specs.declared.Rect.{Rect}
 use Rattle.rules.specs.Window.{Plane, from, flat, low, many, around, square, window}
-use Rattle.rules.specs.Light.{guide}
-use Rattle.rules.specs.Transmission.{leastRatio, coarse, sample, line, fit, refine, refined}
-use Rattle.rules.specs.Picture.{cleared}
-use Rattle.rules.specs.Buffers.{reach, near}
-use Rattle.rules.proofs.Near.{Near, near-facts}
+use Rattle.rules.specs.Transmission.{leastRatio, coarse, sample, line, fit}
 use Rattle.rules.proofs.Local.{Within, Local, from-cong, window-local}
-use Rattle.rules.specs.Box.{part, Fits, Sees, grown, grownTop, grownLeft}
+use Rattle.rules.specs.Box.{part, Fits, Sees}
 
 from-shift : {A : Type 0} (k a n : ℕ) (f : ℕ → A) → from (k + a) n f ≡ from a n (λ i. f (k + i))
 from-shift k a zero f = refl
@@ -76,33 +70,10 @@ module _ (z b : Shape) (top left : ℕ) (fits : Fits z b top left) where
     fit-box f y x s =
         ap (line (k .e)) (boxed-after (k .s) (k .r) (λ z. sample z k a) (λ z. window z (k .r)) sample-box (window-box (k .r)) (window-local b (k .r)) f y x s)
 
-    pub refined-box : Boxed (reach k) (λ z. refined z k a)
-    unfolding refined
-    refined-box f y x s =
-        ap (refine (guide (f (top + y) (left + x))))
-        (boxed-after (k .s + k .r) (k .r) (λ z. fit z k a) (λ z. window z (k .r)) fit-box (window-box (k .r)) (window-local b (k .r)) f y x
-        (sees-less (omega arith) s))
+-- ---- the frame is a box in itself
 
-    pub cleared-box : Boxed (reach k) (λ z. cleared z k a)
-    unfolding cleared
-    cleared-box f y x s = cc (refined-box f y x s)
-
--- ---- its two uses
-
--- Clear: the box is the frame
 pub whole-fits : (z : Shape) → Fits z z 0 0
 whole-fits z = record { rows = omega arith; columns = omega arith }
 
 pub whole-sees : (z : Shape) (q y x : ℕ) → y < z .h → x < z .w → Sees z z 0 0 q y x
 whole-sees z q y x hy hx = record { row = hy; column = hx; up = omega arith; down = omega arith; west = omega arith; east = omega arith }
-
--- Replace: the box is the rectangle grown by twice the reach, and a pixel within the reach of the rectangle sees as far as the reach
-module _ (z : Shape) (q : ℕ) (c : Rect) (across : c .x + c .w ≤ z .w) (down : c .y + c .h ≤ z .h) where
-  pub grown-fits : Fits z (grown z (2 * q) c) (grownTop (2 * q) c) (grownLeft (2 * q) c)
-  grown-fits = record { rows = omega arith; columns = omega arith }
-
-  pub grown-sees : (y x : ℕ) → y < z .h → x < z .w → near q c y x ≡ true
-      → Sees z (grown z (2 * q) c) (grownTop (2 * q) c) (grownLeft (2 * q) c) q (y - grownTop (2 * q) c) (x - grownLeft (2 * q) c)
-  grown-sees y x hy hx e =
-      let n : Near q c y x = near-facts q c y x e in
-      record { row = omega arith; column = omega arith; up = omega arith; down = omega arith; west = omega arith; east = omega arith }

@@ -1,5 +1,5 @@
 -- Window facts once over the folded operation: sums of naturals, sums of integers, minima. A fold over a square is a fold over its rows of folds over
--- its columns (`square-fold`), rows and columns change places (`swap`), and the four corners of the integral image give it (`corners`).
+-- its columns (`square-fold`), and rows and columns change places (`swap`).
 -- Asked of the operation: it is associative and commutative, and twice the start is the start (0 + 0, min top top). Assumes nothing else.
 use mathlib.Core.Path.{_≡_, refl, ap, ap₂, _∙_, sym}
 use mathlib.Core.List.{List, [], _∷_, _++_, foldr, map}
@@ -9,7 +9,7 @@ use native.Mathlib.Omega.{arith}
 use lib.ListN.{length, length-append}
 use lib.IntN.{ℤ, pos, _+ℤ_, +ℤ-assoc, +ℤ-comm}
 use Rattle.rules.specs.Shape.{Shape}
-use Rattle.rules.specs.Fold.{Σ, integral}
+use Rattle.rules.specs.Fold.{Σ}
 use Rattle.rules.proofs.Local.{from-cong, from-length}
 use Rattle.rules.specs.Window.{Plane, from, flat, low, many, around, square, window, total, totalZ, least}
 
@@ -56,9 +56,6 @@ module _ {A : Type 0} (_⊕_ : A → A → A) (ε : A) (assoc : (a b c : A) → 
       rw (suc-add, add-suc, ← suc-add a n)
       (ap (λ (x : A). f a ⊕ x) (Σ-split (suc a) n m f) ∙ sym (assoc (f a) (Σ _⊕_ ε (suc a) n f) (Σ _⊕_ ε (suc a + n) m f)))
 
-  Σ-more : (n m : ℕ) (f : ℕ → A) → Σ _⊕_ ε 0 (n + m) f ≡ Σ _⊕_ ε 0 n f ⊕ Σ _⊕_ ε n m f
-  Σ-more n m f = Σ-split 0 n m f ∙ ap (λ (b : ℕ). Σ _⊕_ ε 0 n f ⊕ Σ _⊕_ ε b m f) (zero-add n)
-
   -- rows first or columns first
   Σ-empty : (a n : ℕ) → Σ _⊕_ ε a n (λ i. ε) ≡ ε
   Σ-empty a zero = refl
@@ -67,17 +64,6 @@ module _ {A : Type 0} (_⊕_ : A → A → A) (ε : A) (assoc : (a b c : A) → 
   pub swap : (f : Plane A) (y n x m : ℕ) → Σ _⊕_ ε y n (λ v. Σ _⊕_ ε x m (λ u. f v u)) ≡ Σ _⊕_ ε x m (λ u. Σ _⊕_ ε y n (λ v. f v u))
   swap f y zero x m = sym (Σ-empty x m)
   swap f y (suc n) x m = ap (λ (s : A). Σ _⊕_ ε x m (λ u. f y u) ⊕ s) (swap f (suc y) n x m) ∙ sym (Σ-add x m (λ u. f y u) (λ u. Σ _⊕_ ε (suc y) n (λ v. f v u)))
-
-  regroup : (b t w a : A) → (b ⊕ (t ⊕ w)) ⊕ a ≡ (w ⊕ b) ⊕ (a ⊕ t)
-  regroup b t w a = simp (assoc, comm, left)
-
-  pub corners : (f : Plane A) (y n x m : ℕ) → integral _⊕_ ε f (y + n) (x + m) ⊕ integral _⊕_ ε f y x ≡ (Σ _⊕_ ε y n (λ v. Σ _⊕_ ε x m (λ u. f v u)) ⊕ integral _⊕_ ε f y (x + m)) ⊕ integral _⊕_ ε f (y + n) x
-  corners f y n x m =
-      let low = Σ-more y n (λ v. Σ _⊕_ ε 0 (x + m) (λ u. f v u)) in
-      let high = Σ-more y n (λ v. Σ _⊕_ ε 0 x (λ u. f v u)) in
-      let strip = Σ-cong y n _ _ (λ v. Σ-more x m (λ u. f v u)) ∙ Σ-add y n (λ v. Σ _⊕_ ε 0 x (λ u. f v u)) (λ v. Σ _⊕_ ε x m (λ u. f v u)) in
-      let whole = ap₂ _⊕_ (low ∙ ap (λ (t : A). integral _⊕_ ε f y (x + m) ⊕ t) strip) refl in
-      whole ∙ regroup _ _ _ _ ∙ ap₂ _⊕_ refl (sym high)
 
   -- a square, row by row
   pub square-fold : (w h q : ℕ) (f : Plane A) (y x : ℕ)
@@ -126,7 +112,7 @@ pub window-square : {A : Type 0} (z : Shape) (q : ℕ) (f : Plane A) (y x : ℕ)
 unfolding window
 window-square z q f y x = refl
 
--- the uses: a square's least value by rows, its sum, and the corners of sums of integers
+-- the uses: a square's least value, and its sum, row by row
 pub least-square : (top w h q : ℕ) (f : Plane ℕ) (y x : ℕ)
     → least top (square w h q f y x) ≡ Σ min top (low q y) (many h q y) (λ v. Σ min top (low q x) (many w q x) (λ u. f v u))
 least-square top = square-fold min top (λ a b c. omega arith) (λ a b. omega arith) (omega arith)
@@ -141,8 +127,3 @@ total-square g w h q f y x =
 pub total-pos : {A : Type 0} (g : A → ℕ) (l : List A) → totalZ (λ i. pos (g i)) l ≡ pos (total g l)
 total-pos g [] = refl
 total-pos g (i ∷ l) = ap (λ (n : ℤ). pos (g i) +ℤ n) (total-pos g l)
-
-pub cornersZ : (f : Plane ℤ) (y n x m : ℕ)
-    → integral _+ℤ_ (pos 0) f (y + n) (x + m) +ℤ integral _+ℤ_ (pos 0) f y x
-    ≡ Σ _+ℤ_ (pos 0) y n (λ v. Σ _+ℤ_ (pos 0) x m (λ u. f v u)) +ℤ integral _+ℤ_ (pos 0) f y (x + m) +ℤ integral _+ℤ_ (pos 0) f (y + n) x
-cornersZ = corners _+ℤ_ (pos 0) +ℤ-assoc +ℤ-comm refl

@@ -3,7 +3,6 @@ use Prim.Native.Nat.{ℕ, _+_, _-_, min, _≤_, _<_}
 use mathlib.Core.Path.{_≡_}
 use mathlib.Core.Bool.{Bool, true}
 use Rattle.rules.specs.Shape.{Shape}
-use Rattle.rules.specs.declared.Rect.{Rect}
 use Rattle.rules.specs.Window.{Plane}
 
 -- the box's own plane
@@ -29,13 +28,3 @@ pub record Covers (z b : Shape) (top left q : ℕ) (t : ℕ → ℕ → Bool) : 
   pub row : (v u : ℕ) → v < z .h → u < z .w → t v u ≡ true → top ≤ v
   pub column : (v u : ℕ) → v < z .h → u < z .w → t v u ≡ true → left ≤ u
   pub sees : (v u : ℕ) → v < z .h → u < z .w → t v u ≡ true → Sees z b top left q (v - top) (u - left)
-
--- the rectangle grown by q rows and columns and cut at the frame: its first row and column, and its shape
-abbrev pub grownTop : ℕ → Rect → ℕ
-grownTop q c = c .y - q
-
-abbrev pub grownLeft : ℕ → Rect → ℕ
-grownLeft q c = c .x - q
-
-abbrev pub grown : Shape → ℕ → Rect → Shape
-grown z q c = record { w = min (z .w) (c .x + c .w + q) - (c .x - q); h = min (z .h) (c .y + c .h + q) - (c .y - q) }

@@ -1,4 +1,6 @@
 -- Laws of the sums.
 pub mod Runs
-pub mod Rows
 pub mod Windows
+pub mod Turns
+pub mod Strips
+pub mod Lent

@@ -4,7 +4,7 @@ use mathlib.Core.Bool.{Bool, true, false, cond}
 use mathlib.Core.List.{List, [], _∷_}
 use mathlib.Core.Logic.{⊎-elim, _↔_}
 use Prim.Native.Nat.{ℕ, zero, suc, _+_, _-_, _*_, _/_, _≤_, _<_, min}
-use native.Mathlib.Nat.{div-lt-iff-lt-mul}
+use native.Mathlib.Nat.{add-zero, div-lt-iff-lt-mul}
 use native.Mathlib.Omega.{arith}
 use borrow.Author.Tests.{lt-ltb, le-ltb}
 use lib.Dec.{ltb}
@@ -51,13 +51,13 @@ inner-le zero k n h = omega arith
 inner-le (suc m) k zero h = omega arith
 inner-le (suc m) k (suc n) h = omega (arith, inner-le m k (suc n - k) h)
 
+pub cond-le : (b : Bool) (n : ℕ) → cond b n 0 ≤ n
+cond-le true n = omega arith
+cond-le false n = omega arith
+
 crossing-le : (s n i : ℕ) → crossing s n i ≤ 1
 unfolding crossing
-crossing-le s n i = bit-le (ltb (lo s i / (2 * s + 1)) (hi s n i / (2 * s + 1)))
-  where
-    bit-le : (b : Bool) → cond b 1 0 ≤ 1
-    bit-le true = omega arith
-    bit-le false = omega arith
+crossing-le s n i = cond-le (ltb (lo s i / (2 * s + 1)) (hi s n i / (2 * s + 1))) 1
 
 tally-le : (f : ℕ → ℕ) (n : ℕ) → ((i : ℕ) → f i ≤ 1) → tally f n ≤ n
 unfolding tally
@@ -108,6 +108,33 @@ tally-suc f n = refl
 pub tally-none : (f : ℕ → ℕ) → tally f 0 ≡ 0
 unfolding tally
 tally-none f = refl
+
+-- ---- sums
+pub tally-cong : (f g : ℕ → ℕ) (n : ℕ) → ((i : ℕ) → i < n → f i ≡ g i) → tally f n ≡ tally g n
+tally-cong f g zero h = rw (tally-none f, tally-none g)
+tally-cong f g (suc n) h =
+    omega (arith, tally-suc f n, tally-suc g n, tally-cong f g n (λ i u. h i (omega arith)), h n (omega arith))
+
+pub tally-zeros : (f : ℕ → ℕ) (n : ℕ) → ((i : ℕ) → i < n → f i ≡ 0) → tally f n ≡ 0
+tally-zeros f zero h = tally-none f
+tally-zeros f (suc n) h = omega (arith, tally-suc f n, tally-zeros f n (λ i u. h i (omega arith)), h n (omega arith))
+
+pub tally-add : (f g : ℕ → ℕ) (n : ℕ) → tally (λ i. f i + g i) n ≡ tally f n + tally g n
+tally-add f g zero = omega (arith, tally-none f, tally-none g, tally-none (λ i. f i + g i))
+tally-add f g (suc n) = omega (arith, tally-suc f n, tally-suc g n, tally-suc (λ i. f i + g i) n, tally-add f g n)
+
+pub tally-split : (f : ℕ → ℕ) (a n : ℕ) → tally f (a + n) ≡ tally f a + tally (λ i. f (a + i)) n
+tally-split f a zero = rw add-zero (omega (arith, tally-none (λ i. f (a + i))))
+tally-split f a (suc n) =
+    let z : a + suc n ≡ suc (a + n) = omega arith in
+    rw z (omega (arith, tally-suc f (a + n), tally-suc (λ i. f (a + i)) n, tally-split f a n))
+
+-- a stretch of ones
+pub tally-ones : (f : ℕ → ℕ) (a d : ℕ) → ((i : ℕ) → a ≤ i → i < a + d → f i ≡ 1) → tally f (a + d) ≡ tally f a + d
+tally-ones f a zero h = rw add-zero (omega arith)
+tally-ones f a (suc d) h =
+    let z : a + suc d ≡ suc (a + d) = omega arith in
+    rw z (omega (arith, tally-suc f (a + d), tally-ones f a d (λ i x y. h i x (omega arith)), h (a + d) (omega arith) (omega arith)))
 
 -- a window reaches into two blocks exactly where it begins before the block of its last sample
 pub crossing-is : (s n i : ℕ) → crossing s n i ≡ cond (ltb (lo s i) (start (2 * s + 1) (hi s n i))) 1 0

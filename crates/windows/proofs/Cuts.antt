@@ -2,8 +2,8 @@
 -- operation. Assumes nothing.
 use mathlib.Core.Path.{_≡_, sym, ap, _∙_}
 use mathlib.Core.Logic.{⊎-elim, _⊎_, inl, inr}
-use Prim.Native.Nat.{ℕ, zero, suc, _+_, _-_, _*_, _/_, _≤_, _<_, zero-le, suc-le-suc}
-use native.Mathlib.Nat.{div-mul-le-self, lt-div-mul-add, div-eq-of-lt-le, add-mul, one-mul}
+use Prim.Native.Nat.{ℕ, zero, suc, _+_, _-_, _*_, _/_, _%_, _≤_, _<_, zero-le, suc-le-suc}
+use native.Mathlib.Nat.{div-mul-le-self, lt-div-mul-add, div-eq-of-lt-le, add-mul, one-mul, mod-eq-sub-div-mul}
 use native.Mathlib.Omega.{arith}
 use borrow.Author.Tests.{lt-ltb, le-ltb, eq-eqb, ne-eqb}
 use Rattle.windows.specs.Span.{span, lo, hi, windowed}
@@ -15,7 +15,18 @@ lt-or-ge a zero = inr zero-le
 lt-or-ge zero (suc b) = inl (suc-le-suc zero-le)
 lt-or-ge (suc a) (suc b) = ⊎-elim (λ h. inl (suc-le-suc h)) (λ h. inr (suc-le-suc h)) (lt-or-ge a b)
 
+pub ne-lt : (a c : ℕ) → c ≤ a → (a ≡ c → ⊥) → c < a
+ne-lt a c l f = ⊎-elim (λ (h : c < a). h) (λ (h : a ≤ c). absurd (f (omega arith))) (lt-or-ge c a)
+
+pub pos-of : (a : ℕ) → (a ≡ 0 → ⊥) → 0 < a
+pos-of a f = ne-lt a 0 zero-le f
+
 module _ (k : ℕ) (some : 0 < k) where
+  -- a sample's place in its block
+  pub start-mod : (i : ℕ) → i % k ≡ i - start k i
+  unfolding start
+  start-mod i = mod-eq-sub-div-mul i k
+
   pub start-le : (i : ℕ) → start k i ≤ i
   unfolding start
   start-le i = div-mul-le-self i k

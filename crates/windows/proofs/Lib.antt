@@ -2,9 +2,6 @@
 pub mod Spans
 pub mod Cuts
 pub mod Counts
-pub mod Runs
-pub mod Blocks
 pub mod Lines
 pub mod Windows
-pub mod Planes
 pub mod Bridge

@@ -1,5 +1,5 @@
 -- Laws of spans. The splits ask that the operation is associative and nothing else. Assumes nothing.
-use mathlib.Core.Path.{_≡_}
+use mathlib.Core.Path.{_≡_, refl}
 use Prim.Native.Nat.{ℕ, zero, suc, _+_, _-_, _≤_, _<_}
 use native.Mathlib.Omega.{arith}
 use Rattle.windows.specs.Span.{run, span}
@@ -24,10 +24,20 @@ module _ {A : Type 0} (op : A → A → A) where
       let k : f (a + suc d) ≡ g (a + suc d) = h (a + suc d) (omega arith) (omega arith) in
       cc
 
+  run-shift : (f : ℕ → A) (b a d : ℕ) → run op (λ u. f (b + u)) a d ≡ run op f (b + a) d
+  unfolding run
+  run-shift f b a zero = refl
+  run-shift f b a (suc d) = let e : b + (a + suc d) ≡ b + a + suc d = omega arith in rw (run-shift f b a d, e)
+
   -- two lines that agree from a to b
   pub span-cong : (f g : ℕ → A) (a b : ℕ) → a ≤ b → ((i : ℕ) → a ≤ i → i ≤ b → f i ≡ g i) → span op f a b ≡ span op g a b
   unfolding span
   span-cong f g a b l h = run-cong f g a (b - a) (λ i m u. h i m (omega arith))
+
+  -- a line that begins b further on
+  pub span-shift : (f : ℕ → A) (b i j : ℕ) → span op (λ u. f (b + u)) i j ≡ span op f (b + i) (b + j)
+  unfolding span
+  span-shift f b i j = let e : b + j - (b + i) ≡ j - i = omega arith in rw e (run-shift f b i (j - i))
 
   module _ (assoc : (x y z : A) → op (op x y) z ≡ op x (op y z)) where
     run-split : (f : ℕ → A) (a d e : ℕ) → run op f a (suc (d + e)) ≡ op (run op f a d) (run op f (suc (a + d)) e)

@@ -3,4 +3,3 @@ pub mod Span
 pub mod Blocks
 pub mod Count
 pub mod Line
-pub mod Plane

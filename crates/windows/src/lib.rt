@@ -1,118 +1,59 @@
-// The minimum over square windows of a plane in the work area, by blocks (van Herk), in place, with its count of comparisons. A sample is a run
-// of entries: a single one where the rows are taken, a whole row where all columns are taken at once.
+// The least over windows of 16-bit samples along a row, by blocks (van Herk), with the count of comparisons.
 ghost use mathlib.Core.Path.{_≡_};
 ghost use mathlib.Core.Bool.{cond};
-ghost use Prim.Native.Nat.{_+_, _-_, _*_, _≤_, _<_, min};
+ghost use Prim.Native.Nat.{ℕ, _+_, _-_, _*_, _≤_, _<_, min};
 ghost use lib.Dec.{ltb};
-ghost use lib.ListN.{length, set};
-ghost use Rattle.numbers.specs.Lower.{lower};
-ghost use Rattle.windows.specs.Span.{hi};
+ghost use lib.ListN.{length, getD};
+ghost use Rattle.windows.specs.Span.{span, hi, windowed};
 ghost use Rattle.windows.specs.Blocks.{start, choose};
-ghost use Rattle.windows.specs.Line.{entry, Runs, Written, Block, Ahead, Behind, Places, Halves, Met, LineMin};
-ghost use Rattle.windows.specs.Plane.{Area, RowsMin, PlaneMin};
+ghost use Rattle.windows.specs.Count.{inBlocks, comparisons, samples};
+ghost use Rattle.windows.specs.Line.{entry, Written, fore, aft, Met};
 use numbers::cut;
 use numbers::less;
-use numbers::lesser_i64;
+use numbers::lesser_u16;
+use numbers::lesser_u32;
+use numbers::lesser_usize;
 
-// The entry at `to` becomes that at `from`.
-fn copy_one(work: &mut [i64], from: usize, to: usize)
-    requires { ⌜ (from < length (now work)) × (to < length (now work)) ⌝ }
-    ensures { λ _. ⌜ now (work .exit) ≡ set (now (work .entry)) to (entry (now (work .entry)) from) ⌝ }
+// A sample for a running least, which is kept in 32 bits: it is quicker.
+fn wide(x: u16) -> u32
+    ensures { λ r. ⌜ (r ≡ x) × (r ≤ 65535) ⌝ }
 {
-    work[to] = work[from];
+    x as u32
 }
 
-// The run at `to` becomes that at `from`. A run of one entry goes without the loop: the rows are taken so.
-fn copy(work: &mut [i64], from: usize, to: usize, len: usize)
-    requires { ⌜ Runs (now work) from to len ⌝ }
-    ensures { λ _. ⌜ Written (λ j. entry (now (work .entry)) (from + j)) (now (work .entry)) (now (work .exit)) to len ⌝ }
+// Entry i of p becomes the least of the samples `first` to i, for each i up to `last`. Returns the number of comparisons.
+fn ahead(line: &[u16], first: usize, last: usize, p: &mut [u16]) -> usize
+    requires { ⌜ (first ≤ last) × (last < length (now line)) × (last < length (now p)) ⌝ }
+    ensures { λ r. ⌜ (r ≡ last - first) × Written (span min (entry (now (line .entry))) first) (now (p .entry)) (now (p .exit)) first (last + 1) ⌝ }
 {
-    if len == 1 {
-        copy_one(work, from, to);
-        return;
-    }
-    let mut j = 0;
-    while j < len {
-        copy_one(work, from + j, to + j);
-        j += 1;
-    }
-}
-
-// The entry at `to` becomes the lower of those at `a` and `b`: the one comparison that is counted.
-fn join_one(work: &mut [i64], a: usize, b: usize, to: usize)
-    requires { ⌜ (a < length (now work)) × (b < length (now work)) × (to < length (now work)) ⌝ }
-    ensures { λ _. ⌜ now (work .exit) ≡ set (now (work .entry)) to (lower (entry (now (work .entry)) a) (entry (now (work .entry)) b)) ⌝ }
-{
-    work[to] = lesser_i64(work[a], work[b]);
-}
-
-// The run at `to` becomes, entry by entry, the lower of those at `a` and `b`.
-fn join(work: &mut [i64], a: usize, b: usize, to: usize, len: usize)
-    requires { ⌜ Runs (now work) a to len × Runs (now work) b to len ⌝ }
-    ensures { λ _. ⌜ Written (λ j. lower (entry (now (work .entry)) (a + j)) (entry (now (work .entry)) (b + j))) (now (work .entry)) (now (work .exit)) to len ⌝ }
-{
-    if len == 1 {
-        join_one(work, a, b, to);
-        return;
-    }
-    let mut j = 0;
-    while j < len {
-        join_one(work, a + j, b + j, to + j);
-        j += 1;
-    }
-}
-
-// Sample i of the line at `to` becomes the least of the samples `first` to i, for each i up to `last`. Returns how many runs were joined.
-fn ahead(
-    work: &mut [i64],
-    base: usize,
-    step: usize,
-    len: usize,
-    first: usize,
-    last: usize,
-    to: usize,
-) -> usize
-    requires { ⌜ Block (now work) base step len first last to ⌝ }
-    ensures { λ r. ⌜ Ahead (now (work .entry)) (now (work .exit)) base step len first last to r ⌝ }
-{
-    copy(work, base + first * step, to + first * len, len);
-    let mut count = 0;
+    let mut m = wide(line[first]);
+    p[first] = m as u16;
     let mut i = first;
     while i < last {
-        let next = i + 1;
-        join(work, to + i * len, base + next * step, to + next * len, len);
-        i = next;
-        count += 1;
+        i += 1;
+        m = lesser_u32(m, wide(line[i]));
+        p[i] = m as u16;
     }
-    count
+    last - first
 }
 
-// Sample i of the line at `to` becomes the least of the samples i to `last`, for each i from `first` on. Returns how many runs were joined.
-fn behind(
-    work: &mut [i64],
-    base: usize,
-    step: usize,
-    len: usize,
-    first: usize,
-    last: usize,
-    to: usize,
-) -> usize
-    requires { ⌜ Block (now work) base step len first last to ⌝ }
-    ensures { λ r. ⌜ Behind (now (work .entry)) (now (work .exit)) base step len first last to r ⌝ }
+// Entry i of q becomes the least of the samples i to `last`, for each i from `first` on. Returns the number of comparisons.
+fn behind(line: &[u16], first: usize, last: usize, q: &mut [u16]) -> usize
+    requires { ⌜ (first ≤ last) × (last < length (now line)) × (last < length (now q)) ⌝ }
+    ensures { λ r. ⌜ (r ≡ last - first) × Written (λ i. span min (entry (now (line .entry))) i last) (now (q .entry)) (now (q .exit)) first (last + 1) ⌝ }
 {
-    copy(work, base + last * step, to + last * len, len);
-    let mut count = 0;
+    let mut m = wide(line[last]);
+    q[last] = m as u16;
     let mut i = last;
     while first < i {
-        let next = i - 1;
-        join(work, base + next * step, to + i * len, to + next * len, len);
-        i = next;
-        count += 1;
+        i -= 1;
+        m = lesser_u32(m, wide(line[i]));
+        q[i] = m as u16;
     }
-    count
+    last - first
 }
 
-// The last sample of the block of `k` that starts at `first`, on a line of `n`.
+// The last sample of the block of k that starts at `first`, on a line of n.
 fn last_of(first: usize, k: usize, n: usize) -> usize
     requires { ⌜ (first < n) × (0 < k) ⌝ }
     ensures { λ r. ⌜ r ≡ min (first + k) n - 1 ⌝ }
@@ -124,7 +65,25 @@ fn last_of(first: usize, k: usize, n: usize) -> usize
     }
 }
 
-// The last sample of the window of radius `s` about `i`, on a line of `n`.
+// The minima of a line's blocks of k: in p from the block's start to each sample, in q from each sample to the block's end.
+// Returns the number of comparisons.
+fn halves(line: &[u16], n: usize, k: usize, p: &mut [u16], q: &mut [u16]) -> usize
+    requires { ⌜ (0 < k) × (k ≤ 61) × (n ≤ 1024) × (n ≤ length (now line)) × (n ≤ length (now p)) × (n ≤ length (now q)) ⌝ }
+    ensures { λ r. ⌜ (r ≡ inBlocks k (samples n)) × ((i : ℕ) → i < n → entry (now (p .exit)) i ≡ fore (now (line .entry)) k i)
+        × ((i : ℕ) → i < n → entry (now (q .exit)) i ≡ aft (now (line .entry)) k n i) ⌝ }
+{
+    let mut count = 0;
+    let mut first = 0;
+    while first < n {
+        let last = last_of(first, k, n);
+        count += ahead(line, first, last, p);
+        count += behind(line, first, last, q);
+        first += k;
+    }
+    count
+}
+
+// The last sample of the window of radius s about i, on a line of n.
 fn high(i: usize, s: usize, n: usize) -> usize
     requires { ⌜ i < n ⌝ }
     ensures { λ r. ⌜ r ≡ hi s n i ⌝ }
@@ -132,156 +91,120 @@ fn high(i: usize, s: usize, n: usize) -> usize
     cut(i, s, n - 1)
 }
 
-// The start of the block of `k` that holds `b`, which lies at most one block after that of `c`.
-fn block_of(c: usize, k: usize, b: usize) -> usize
-    requires { ⌜ (0 < k) × (start k c ≡ c) × (c ≤ b) × (b ≤ c + k) ⌝ }
-    ensures { λ r. ⌜ r ≡ start k b ⌝ }
+// The start of the last block of k, on a line of n.
+pub fn last_block(n: usize, k: usize) -> usize
+    requires { ⌜ (0 < n) × (0 < k) ⌝ }
+    ensures { λ r. ⌜ r ≡ start k (n - 1) ⌝ }
 {
-    if b - c < k { c } else { c + k }
+    (n - 1) - (n - 1) % k
 }
 
-// The run at `to` becomes the least over the window that begins at sample `a` and whose last block starts at `c`, from the block minima at `x`
-// and `y`. Returns 1 where two runs were joined.
-fn pick(work: &mut [i64], x: usize, y: usize, a: usize, c: usize, to: usize, len: usize) -> usize
-    requires { ⌜ Runs (now work) x to len × Runs (now work) y to len ⌝ }
-    ensures { λ r. ⌜ (r ≡ cond (ltb a c) 1 0)
-        × Written (λ j. choose lower a c (entry (now (work .entry)) (x + j)) (entry (now (work .entry)) (y + j))) (now (work .entry)) (now (work .exit)) to len ⌝ }
+// The least over the window that begins at sample a, from the block minima x at its first sample and y at its last. The last lies in the block that
+// starts at c, in the line's first block where a is 0.
+fn pick(x: u16, y: u16, a: usize, c: usize) -> u16
+    ensures { λ r. ⌜ ((d : ℕ) → (0 < a → d ≡ c) → (a ≡ 0 → d ≡ 0) → r ≡ choose min a d x y) ⌝ }
 {
-    if a < c {
-        join(work, x, y, to, len);
-        return 1;
+    if a == 0 {
+        return y;
     }
     if a == c {
-        copy(work, y, to, len);
+        return y;
+    }
+    if c < a {
+        return x;
+    }
+    lesser_u16(x, y)
+}
+
+// 1 where that window lies in two blocks.
+fn crosses(a: usize, c: usize) -> usize
+    ensures { λ r. ⌜ ((d : ℕ) → (0 < a → d ≡ c) → (a ≡ 0 → d ≡ 0) → r ≡ cond (ltb a d) 1 0) ⌝ }
+{
+    if a == 0 {
         return 0;
     }
-    copy(work, x, to, len);
-    0
+    if a < c { 1 } else { 0 }
 }
 
-// The minima of a line's blocks of `k`: at `p` from the block's start to each sample, at `q` from each sample to the block's end.
-// Returns how many runs were joined.
-fn halves(
-    work: &mut [i64],
-    base: usize,
-    step: usize,
+// The windows from `from` to before `end`, which are cut off at the line's ends. Returns the number of comparisons.
+fn meet_cut(
+    line: &mut [u16],
     n: usize,
-    len: usize,
-    k: usize,
-    p: usize,
-    q: usize,
-) -> usize
-    requires { ⌜ (0 < k) × (k ≤ 61) × Places (now work) base step n len p q ⌝ }
-    ensures { λ r. ⌜ Halves (now (work .entry)) (now (work .exit)) base step n len k p q r ⌝ }
-{
-    let mut count = 0;
-    let mut first = 0;
-    while first < n {
-        let last = last_of(first, k, n);
-        count += ahead(work, base, step, len, first, last, p);
-        count += behind(work, base, step, len, first, last, q);
-        first += k;
-    }
-    count
-}
-
-// Each sample becomes the least over its window of radius `s`, from the block minima at `p` and `q`. Returns how many runs were joined.
-fn meet(
-    work: &mut [i64],
-    base: usize,
-    step: usize,
-    n: usize,
-    len: usize,
     s: usize,
-    p: usize,
-    q: usize,
+    p: &[u16],
+    q: &[u16],
+    from: usize,
+    end: usize,
 ) -> usize
-    requires { ⌜ (s ≤ 30) × Places (now work) base step n len p q ⌝ }
-    ensures { λ r. ⌜ Met (now (work .entry)) (now (work .exit)) base step n len s p q r ⌝ }
+    requires { ⌜ (s ≤ 30) × (0 < n) × (n ≤ 1024) × (n ≤ length (now line)) × (n ≤ length (now p)) × (n ≤ length (now q)) × (from ≤ end) × (end ≤ n)
+        × ((i : ℕ) → from ≤ i → i < end → s ≤ i → n ≤ i + s) ⌝ }
+    ensures { λ r. ⌜ Met (now (line .entry)) (now (line .exit)) (now (p .entry)) (now (q .entry)) n s from end r ⌝ }
 {
-    let k = 2 * s + 1;
+    let c = last_block(n, 2 * s + 1);
     let mut count = 0;
-    let mut c = 0;
-    let mut i = 0;
-    while i < n {
+    let mut i = from;
+    while i < end {
         let a = less(i, s);
-        let b = high(i, s, n);
-        c = block_of(c, k, b);
-        count += pick(work, q + a * len, p + b * len, a, c, base + i * step, len);
+        line[i] = pick(q[a], p[high(i, s, n)], a, c);
+        count += crosses(a, c);
         i += 1;
     }
     count
 }
 
-// Each of the `n` entries from `base` on becomes the least over its window of radius `s`. 2·n entries from `p` on are used. Returns the number of
-// comparisons. (`line_min` does the same; said with the numbers, the passes are compiled for single entries.)
-fn row_min(work: &mut [i64], base: usize, n: usize, s: usize, p: usize) -> usize
-    requires { ⌜ (s ≤ 30) × Places (now work) base 1 n 1 p (p + n) ⌝ }
-    ensures { λ r. ⌜ LineMin (now (work .entry)) (now (work .exit)) base 1 n 1 s p r ⌝ }
+// Whole windows that lie in two blocks: m of them, of which the first begins at a.
+fn join_run(line: &mut [u16], s: usize, a: usize, m: usize, p: &[u16], q: &[u16])
+    requires { ⌜ (a + 2 * s + m ≤ 1024) × (a + s + m ≤ length (now line)) × (a + 2 * s + m ≤ length (now p)) × (a + 2 * s + m ≤ length (now q)) ⌝ }
+    ensures { λ _. ⌜ Written (λ i. min (entry (now (q .entry)) (i - s)) (entry (now (p .entry)) (i + s))) (now (line .entry)) (now (line .exit)) (a + s) (a + s + m) ⌝ }
 {
-    let q = p + n;
-    let a = halves(work, base, 1, n, 1, 2 * s + 1, p, q);
-    let b = meet(work, base, 1, n, 1, s, p, q);
-    a + b
+    let mut i = 0;
+    while i < m {
+        line[a + s + i] = lesser_u16(q[a + i], p[a + 2 * s + i]);
+        i += 1;
+    }
 }
 
-// Each of the `n` samples of a line becomes the least over its window of radius `s`, lane by lane. 2·n·len entries from `p` on are used.
-// Returns how many runs were joined, by `len` comparisons each.
-fn line_min(
-    work: &mut [i64],
-    base: usize,
-    step: usize,
-    n: usize,
-    len: usize,
-    s: usize,
-    p: usize,
-) -> usize
-    requires { ⌜ (s ≤ 30) × Places (now work) base step n len p (p + n * len) ⌝ }
-    ensures { λ r. ⌜ LineMin (now (work .entry)) (now (work .exit)) base step n len s p r ⌝ }
-{
-    let q = p + n * len;
-    let a = halves(work, base, step, n, len, 2 * s + 1, p, q);
-    let b = meet(work, base, step, n, len, s, p, q);
-    a + b
-}
-
-// Each row of a plane becomes its minima over windows of radius `s`. Returns the number of comparisons.
-fn rows_min(
-    work: &mut [i64],
-    base: usize,
-    stride: usize,
-    w: usize,
-    h: usize,
-    s: usize,
-    scratch: usize,
-) -> usize
-    requires { ⌜ (s ≤ 30) × Area (now work) base stride w h scratch ⌝ }
-    ensures { λ r. ⌜ RowsMin (now (work .entry)) (now (work .exit)) base stride w h s scratch r ⌝ }
+// The m whole windows. Returns the number of comparisons.
+fn meet_whole(line: &mut [u16], s: usize, m: usize, p: &[u16], q: &[u16]) -> usize
+    requires { ⌜ (s ≤ 30) × (m + 2 * s ≤ 1024) × (m + 2 * s ≤ length (now line)) × (m + 2 * s ≤ length (now p)) × (m + 2 * s ≤ length (now q)) ⌝ }
+    ensures { λ r. ⌜ Met (now (line .entry)) (now (line .exit)) (now (p .entry)) (now (q .entry)) (m + 2 * s) s s (m + s) r ⌝ }
 {
     let mut count = 0;
-    let mut y = 0;
-    while y < h {
-        count += row_min(work, base + y * stride, w, s, scratch);
-        y += 1;
+    let mut a = 0;
+    while a < m {
+        line[a + s] = p[a + 2 * s];
+        let some = lesser_usize(2 * s, m - a - 1);
+        join_run(line, s, a + 1, some, p, q);
+        count += some;
+        a += 2 * s + 1;
     }
     count
 }
 
-// Each entry of a plane of `w` by `h`, whose rows start `stride` apart from `base` on, becomes the least over the square window of radius `s`
-// about it. 2·w·h entries from `scratch` on are used. Returns the number of comparisons.
-pub fn minima(
-    work: &mut [i64],
-    base: usize,
-    stride: usize,
-    w: usize,
-    h: usize,
-    s: usize,
-    scratch: usize,
-) -> usize
-    requires { ⌜ (s ≤ 30) × Area (now work) base stride w h scratch ⌝ }
-    ensures { λ r. ⌜ PlaneMin (now (work .entry)) (now (work .exit)) base stride w h s scratch r ⌝ }
+// Each sample becomes the least over its window of radius s, from the block minima p and q. Returns the number of comparisons.
+fn meet(line: &mut [u16], n: usize, s: usize, p: &[u16], q: &[u16]) -> usize
+    requires { ⌜ (s ≤ 30) × (0 < n) × (n ≤ 1024) × (n ≤ length (now line)) × (n ≤ length (now p)) × (n ≤ length (now q)) ⌝ }
+    ensures { λ r. ⌜ Met (now (line .entry)) (now (line .exit)) (now (p .entry)) (now (q .entry)) n s 0 n r ⌝ }
 {
-    let rows = rows_min(work, base, stride, w, h, s, scratch);
-    let columns = line_min(work, base, stride, h, w, s, scratch);
-    rows + w * columns
+    if n <= 2 * s {
+        return meet_cut(line, n, s, p, q, 0, n);
+    }
+    let a = meet_cut(line, n, s, p, q, 0, s);
+    let b = meet_whole(line, s, n - 2 * s, p, q);
+    let c = meet_cut(line, n, s, p, q, n - s, n);
+    a + b + c
+}
+
+// Each of the first n samples becomes the least over its window of radius s. p and q are scratch. Returns the number of comparisons.
+pub fn shrink(line: &mut [u16], n: usize, s: usize, p: &mut [u16], q: &mut [u16]) -> usize
+    requires { ⌜ (s ≤ 30) × (0 < n) × (n ≤ 1024) × (n ≤ length (now line)) × (n ≤ length (now p)) × (n ≤ length (now q)) ⌝ }
+    ensures mins { λ _. ⌜ ((x : ℕ) → x < n → getD (now (line .exit)) x 0 ≡ windowed min (λ i. getD (now (line .entry)) i 0) s n x) ⌝ }
+    ensures count { λ r. ⌜ r ≡ comparisons s (samples n) ⌝ }
+{
+    if s == 0 {
+        return 0;
+    }
+    let a = halves(line, n, 2 * s + 1, p, q);
+    let b = meet(line, n, s, p, q);
+    a + b
 }

@@ -3,3 +3,7 @@ pub mod Runs
 pub mod Parts
 pub mod Rows
 pub mod Placed
+pub mod Scaled
+pub mod Recovered
+pub mod Sliding
+pub mod Refined

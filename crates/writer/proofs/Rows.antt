@@ -2,9 +2,9 @@
 use mathlib.Core.Path.{_≡_, refl, sym, ap, _∙_}
 use mathlib.Core.Bool.{Bool, true, false, cond, true≢false}
 use mathlib.Core.List.{List}
-use Prim.Native.Nat.{ℕ, _+_, _-_, _*_, _/_, _%_, _≤_, _<_}
+use Prim.Native.Nat.{ℕ, _+_, _*_, _/_, _%_, _≤_, _<_}
 use native.Mathlib.Decide.{decLt}
-use native.Mathlib.Nat.{mod-lt, div-add-mod', div-eq-of-lt-le}
+use native.Mathlib.Nat.{div-add-mod', div-eq-of-lt-le}
 use native.Mathlib.Omega.{arith}
 use lib.ListN.{length, getD, take, drop}
 use Rattle.rules.specs.Shape.{Shape}
@@ -42,9 +42,6 @@ module _ (width : ℕ) (o : Rect) (wide : 0 < width) (fits : o .x + o .w ≤ wid
   start = (o .y + j) * width + o .x
 
   module _ (p : ℕ) where
-    rem-lt : p % width < width
-    rem-lt = mod-lt p wide
-
     parts : p / width * width + p % width ≡ p
     parts = div-add-mod' p width
 

@@ -2,17 +2,15 @@
 use mathlib.Core.Path.{_≡_, refl, ap, ap₂, _∙_, subst}
 use mathlib.Core.List.{List}
 use Prim.Native.Nat.{ℕ, _+_, _*_, _/_, _%_, _≤_, _<_}
-use native.Mathlib.Decide.{decLt}
 use native.Mathlib.Nat.{not-suc-le-zero}
 use native.Mathlib.Omega.{arith}
-use lib.ListN.{length, getD, set, length-set}
-use lib.Seq.{getD-set-same, getD-set-other}
-use Rattle.rules.specs.Shape.{Shape}
+use lib.ListN.{length, set, length-set}
+use lib.Seq.{getD-set-other}
 use Rattle.rules.specs.declared.Rgb.{Rgb}
-use Rattle.rules.specs.Window.{Plane}
-use Rattle.rules.specs.Light.{at}
-use Rattle.rules.specs.Buffers.{channel, byteAt}
+use Rattle.rules.specs.Buffers.{channel}
+use Rattle.planes.proofs.Stored.{stored}
 use Rattle.writer.specs.Run.{Run, setPixel}
+use Rattle.writer.specs.Row.{bytesOf}
 
 -- a run of one function is a run of another that has the same values there
 pub run-as : (F G : ℕ → ℕ) (a b n : ℕ) (old new : List ℕ) → ((k : ℕ) → k < n → F (a + k) ≡ G (b + k)) → Run F a n old new → Run G b n old new
@@ -28,30 +26,26 @@ module _ (F : ℕ → ℕ) (a : ℕ) where
   pub run-more : (n v : ℕ) (old new : List ℕ) → Run F a n old new → n < length new → v ≡ F (a + n) → Run F a (n + 1) old (set new n v)
   run-more n v old new r l e = record {
     same = length-set new n v ∙ r .same;
-    in-run = λ k h. by k h (decLt k n);
+    in-run = λ k h. stored (λ (k x : ℕ). x ≡ F (a + k)) new n v 0 l e k (λ ne. r .in-run k (omega arith));
     past = λ k h. getD-set-other new n k v 0 (λ p. omega arith) ∙ r .past k (omega arith);
   }
-    where
-      by : (k : ℕ) → k < n + 1 → Dec (k < n) → getD (set new n v) k 0 ≡ F (a + k)
-      by k h (yes p) = getD-set-other new n k v 0 (λ q. omega arith) ∙ r .in-run k p
-      by k h (no p) = let q : k ≡ n = omega arith in rw q (getD-set-same new n v 0 l ∙ e)
 
 -- byte c of the pixel at position p
-byte-at : (z : Shape) (f : Plane Rgb) (p c q : ℕ) → c < 3 → q ≡ 3 * p + c → channel c (at z f p) ≡ byteAt z f q
-byte-at z f p c q h e =
+byte-at : (g : ℕ → Rgb) (p c q : ℕ) → c < 3 → q ≡ 3 * p + c → channel c (g p) ≡ bytesOf g q
+byte-at g p c q h e =
     let m : c ≡ q % 3 = omega arith in
     let d : p ≡ q / 3 = omega arith in
-    ap₂ (λ (n p : ℕ). channel n (at z f p)) m d
+    ap₂ (λ (n p : ℕ). channel n (g p)) m d
 
 -- one pixel more of a run of bytes
-pub run-pixel : (z : Shape) (f : Plane Rgb) (a n : ℕ) (j : Rgb) (old new : List ℕ) → Run (byteAt z f) (3 * a) (3 * n) old new → 3 * n + 3 ≤ length new → j ≡ at z f (a + n)
-    → Run (byteAt z f) (3 * a) (3 * (n + 1)) old (setPixel new n j)
-run-pixel z f a n j old new r l e =
-    let F = byteAt z f in
-    let red = run-more F (3 * a) (3 * n) (j .r) old new r (omega arith) (ap (channel 0) e ∙ byte-at z f (a + n) 0 (3 * a + 3 * n) (omega arith) (omega arith)) in
-    let green = run-more F (3 * a) (3 * n + 1) (j .g) old _ red (simp length-set (omega arith)) (ap (channel 1) e ∙ byte-at z f (a + n) 1 (3 * a + (3 * n + 1)) (omega arith) (omega arith)) in
+pub run-pixel : (g : ℕ → Rgb) (a n : ℕ) (j : Rgb) (old new : List ℕ) → Run (bytesOf g) (3 * a) (3 * n) old new → 3 * n + 3 ≤ length new → j ≡ g (a + n)
+    → Run (bytesOf g) (3 * a) (3 * (n + 1)) old (setPixel new n j)
+run-pixel g a n j old new r l e =
+    let F = bytesOf g in
+    let red = run-more F (3 * a) (3 * n) (j .r) old new r (omega arith) (ap (channel 0) e ∙ byte-at g (a + n) 0 (3 * a + 3 * n) (omega arith) (omega arith)) in
+    let green = run-more F (3 * a) (3 * n + 1) (j .g) old _ red (simp length-set (omega arith)) (ap (channel 1) e ∙ byte-at g (a + n) 1 (3 * a + (3 * n + 1)) (omega arith) (omega arith)) in
     let two : 3 * n + 1 + 1 ≡ 3 * n + 2 = omega arith in
     let blue =
     run-more F (3 * a) (3 * n + 2) (j .b) old _ (run-to F (3 * a) two green) (simp length-set (omega arith))
-    (ap (channel 2) e ∙ byte-at z f (a + n) 2 (3 * a + (3 * n + 2)) (omega arith) (omega arith)) in
+    (ap (channel 2) e ∙ byte-at g (a + n) 2 (3 * a + (3 * n + 2)) (omega arith) (omega arith)) in
     run-to F (3 * a) (let e : 3 * n + 2 + 1 ≡ 3 * (n + 1) = omega arith in e) blue

@@ -1,42 +1,23 @@
--- What the writer writes: of each pixel of the box, the map entry and the cleared pixel that the box has as a frame of its own. And where.
--- Assumes nothing.
-use mathlib.Core.Path.{_≡_}
+-- What the writer writes, and where. Assumes nothing.
+use Prim.Native.Nat.{ℕ, _+_, _-_, _≤_, _<_, max}
 use mathlib.Core.List.{List}
-use Prim.Native.Nat.{ℕ, _+_, _-_, _*_, _≤_, _<_}
-use lib.ListN.{length}
-use Rattle.rules.specs.Shape.{Shape}
-use Rattle.rules.specs.declared.Settings.{Settings}
+use lib.ListN.{getD}
 use Rattle.rules.specs.declared.Rgb.{Rgb}
-use Rattle.rules.specs.declared.Rect.{Rect}
-use Rattle.rules.specs.Window.{Plane}
-use Rattle.rules.specs.Transmission.{refined}
-use Rattle.rules.specs.Picture.{cleared}
-use Rattle.planes.specs.Stage.{shown}
+use Rattle.rules.specs.Window.{Plane, square}
+use Rattle.rules.specs.Light.{guide}
+use Rattle.rules.specs.Transmission.{Line, refine}
+use Rattle.rules.specs.Picture.{recover3}
+use Rattle.planes.specs.declared.View.{View}
+use Rattle.planes.specs.View.{rowStart}
 
--- a plane of the box, at the frame's rows and columns
-abbrev pub unboxed : {A : Type 0} → ℕ → ℕ → Plane A → Plane A
-unboxed top left f v u = f (v - top) (u - left)
+-- the refined value of the frame's pixel (y, x), which is a pixel of the view `to`: from the lines F over the square about the same pixel of the view v
+abbrev pub refinedBy : View → View → ℕ → Plane Rgb → Plane Line → Plane ℕ
+refinedBy to v r f F y x = refine (guide (f y x)) (square (v .w) (v .h) r F (v .top + (y - to .top)) (v .left + (x - to .left)))
 
-abbrev pub newMap : Shape → Shape → ℕ → ℕ → Settings → Rgb → List ℕ → Plane ℕ
-newMap z b top left k a frame = unboxed top left (refined b k a (shown z top left frame))
+-- the cleared pixel, from the map m and the floor t0
+abbrev pub recoveredBy : Rgb → ℕ → Plane Rgb → Plane ℕ → Plane Rgb
+recoveredBy a t0 f m y x = recover3 a (f y x) (max (m y x) t0)
 
-abbrev pub newPicture : Shape → Shape → ℕ → ℕ → Settings → Rgb → List ℕ → Plane Rgb
-newPicture z b top left k a frame = unboxed top left (cleared b k a (shown z top left frame))
-
--- n pixels of the frame's row y, from column x on, lie in the box, and the two parts have room for them
-pub record Stretch (b : Shape) (top left y x n : ℕ) (map picture : List ℕ) : Type 0 where
-  pub up : top ≤ y
-  pub down : y < top + b .h
-  pub west : left ≤ x
-  pub east : x + n ≤ left + b .w
-  pub entries : n ≤ length map
-  pub bytes : 3 * n ≤ length picture
-
--- the rectangle o of the frame lies in the box, and map and picture are as large as the frame
-pub record Target (z b : Shape) (top left : ℕ) (o : Rect) (map picture : List ℕ) : Type 0 where
-  pub up : top ≤ o .y
-  pub down : o .y + o .h ≤ top + b .h
-  pub west : left ≤ o .x
-  pub east : o .x + o .w ≤ left + b .w
-  pub entries : length map ≡ z .w * z .h
-  pub bytes : length picture ≡ 3 * (z .w * z .h)
+-- the view's entries are transmissions
+pub record Entries (to : View) (map : List ℕ) : Type 0 where
+  pub most : (y x : ℕ) → y < to .tall → x < to .wide → getD map (rowStart to y + x) 0 ≤ 10000

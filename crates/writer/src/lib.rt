@@ -1,24 +1,54 @@
-// What the pipeline hands over: map entries and cleared pixels of a rectangle, and the pasting of new pixels. Rows are written run by run, each
-// through the part of the lent buffer that starts at the run's first pixel.
+// What the pipeline hands over: the map entries of a rectangle, then its cleared pixels from them. Rows are written run by run, each through the part of the
+// lent buffer that starts at the run's first pixel.
 ghost use mathlib.Core.Path.{_≡_};
-ghost use Prim.Native.Nat.{_+_, _*_, _≤_, _<_, max};
-ghost use lib.ListN.{length, getD, set};
-ghost use Rattle.rules.specs.Shape.{described};
-ghost use Rattle.rules.specs.Light.{at};
-ghost use Rattle.rules.specs.Transmission.{fit};
-ghost use Rattle.rules.specs.Picture.{recover3};
-ghost use Rattle.rules.specs.Buffers.{byteAt, mapWith, frameWith, near, pasted};
-ghost use Rattle.rules.specs.Good.{GoodRect};
-ghost use Rattle.planes.specs.Stage.{Given, Lined, shown};
-ghost use Rattle.writer.specs.Run.{Run, setPixel};
-ghost use Rattle.writer.specs.Write.{newMap, newPicture, Stretch, Target};
-use filter::refined_at;
+ghost use Prim.Native.Nat.{ℕ, _+_, _*_, _≤_, _<_, max};
+ghost use lib.ListN.{length, getD};
+ghost use Rattle.rules.specs.Window.{Plane};
+ghost use Rattle.rules.specs.Transmission.{Line};
+ghost use Rattle.rules.specs.Buffers.{pixels, values, mapWith, frameWith, near};
+ghost use Rattle.planes.specs.View.{InPlane, whole, rectOf};
+ghost use Rattle.planes.specs.Stage.{Lined, Lining};
+ghost use Rattle.writer.specs.Run.{Run};
+ghost use Rattle.writer.specs.Row.{Windows, entryBy, ScaleOf, Known, Scales, flooredAt, bytesOf, clearedBy, Floored};
+ghost use Rattle.writer.specs.Write.{refinedBy, recoveredBy, Entries};
+use pixel::guide_of;
 use pixel::pixel_at;
 use pixel::recovered;
-use rules::Rect;
+use pixel::refined;
+use pixel::scale;
+use planes::View;
+use planes::row_start;
 use rules::Rgb;
-use rules::Settings;
-use rules::Size;
+use sizes::resize;
+use sums::begin;
+use sums::next;
+
+// The refined values of n pixels of the frame from position p on go to the front of the part.
+fn refine_row(
+    map: &mut [u16],
+    frame: &[u8],
+    p: usize,
+    n: usize,
+    slopes: &[i64],
+    offsets: &[i64],
+    ns: &[u64],
+    inverses: &[u64],
+)
+    requires { ⌜ (n ≤ length (now map)) × (3 * (p + n) ≤ length (now frame)) × Windows n (now slopes) (now offsets) (now ns) (now inverses) ⌝ }
+    ensures { λ _. ⌜ Run (entryBy (now (frame .entry)) p (now (slopes .entry)) (now (offsets .entry)) (now (ns .entry))) p n (now (map .entry)) (now (map .exit)) ⌝ }
+{
+    let mut i = 0;
+    while i < n {
+        map[i] = refined(
+            ns[i],
+            inverses[i],
+            slopes[i],
+            offsets[i],
+            guide_of(pixel_at(frame, p + i)),
+        ) as u16;
+        i += 1;
+    }
+}
 
 // The transmission that the recovery goes by.
 fn floored(v: u64, t0: u64) -> u64
@@ -27,134 +57,124 @@ fn floored(v: u64, t0: u64) -> u64
     if v < t0 { t0 } else { v }
 }
 
-// A pixel without the haze.
-fn recovered_pixel(a: Rgb, i: Rgb, t: u64) -> Rgb
-    requires { ⌜ (0 < t) × (t ≤ 10000) ⌝ }
-    ensures { λ r. ⌜ r ≡ recover3 a i t ⌝ }
+// The scale of a transmission, from the table, where 0 says that it is not known yet.
+fn scale_of(table: &mut [u32], t: u64) -> u32
+    requires { ⌜ Known (now table) × (t ≤ 10000) ⌝ }
+    ensures known { λ _. ⌜ Known (now (table .exit)) ⌝ }
+    ensures scale { λ r. ⌜ ScaleOf t r ⌝ }
 {
-    let r = recovered(a.r, i.r, t);
-    let g = recovered(a.g, i.g, t);
-    let b = recovered(a.b, i.b, t);
-    Rgb { r: r, g: g, b: b }
+    let i = t as usize;
+    let known = table[i];
+    if known != 0 {
+        return known;
+    }
+    let s = scale(t as u32);
+    table[i] = s;
+    s
 }
 
-// Entry i of the map, and pixel i of the picture.
-fn put(map: &mut [u16], picture: &mut [u8], i: usize, v: u64, j: Rgb)
-    requires { ⌜ (i < length (now map)) × (3 * i + 3 ≤ length (now picture)) × (v ≤ 10000) ⌝ }
-    ensures map { λ _. ⌜ now (map .exit) ≡ set (now (map .entry)) i v ⌝ }
-    ensures picture { λ _. ⌜ now (picture .exit) ≡ setPixel (now (picture .entry)) i j ⌝ }
+// The scales of n transmissions, of the entries at the part's front.
+fn scale_row(scales: &mut [u32], n: usize, map: &[u16], t0: u64, table: &mut [u32])
+    requires { ⌜ (n ≤ length (now scales)) × (n ≤ length (now map)) × (t0 ≤ 10000) × Known (now table) × ((k : ℕ) → k < n → getD (now map) k 0 ≤ 10000) ⌝ }
+    ensures known { λ _. ⌜ Known (now (table .exit)) ⌝ }
+    ensures scales { λ _. ⌜ Scales (flooredAt (now (map .entry)) t0) n (now (scales .exit)) ⌝ }
 {
-    map[i] = v as u16;
-    let q = 3 * i;
-    picture[q] = j.r;
-    picture[q + 1] = j.g;
-    picture[q + 2] = j.b;
-}
-
-// The map entries and the cleared pixels of n pixels of the frame's row y, from column x on, go to the front of the two parts.
-fn write_run(
-    map: &mut [u16],
-    picture: &mut [u8],
-    frame: &[u8],
-    work: &[i64],
-    z: Size,
-    b: Size,
-    top: usize,
-    left: usize,
-    k: Settings,
-    a: Rgb,
-    y: usize,
-    x: usize,
-    n: usize,
-)
-    requires { ⌜ Given (described z) (described b) top left k a (now frame) ⌝ }
-    requires { ⌜ Lined (now work) (described b) (fit (described b) k a (shown (described z) top left (now frame))) ⌝ }
-    requires { ⌜ Stretch (described b) top left y x n (now map) (now picture) ⌝ }
-    ensures map { λ _. ⌜ Run (at (described z) (newMap (described z) (described b) top left k a (now (frame .entry)))) (y * z .w + x) n (now (map .entry)) (now (map .exit)) ⌝ }
-    ensures picture { λ _. ⌜ Run (byteAt (described z) (newPicture (described z) (described b) top left k a (now (frame .entry))))
-        (3 * (y * z .w + x)) (3 * n) (now (picture .entry)) (now (picture .exit)) ⌝ }
-{
-    let first = y * z.w + x;
-    let mut i = 0;
-    while i < n {
-        let v = refined_at(frame, work, z, b, top, left, k, a, y - top, x + i - left);
-        let t = floored(v, k.t0);
-        let j = recovered_pixel(a, pixel_at(frame, first + i), t);
-        put(map, picture, i, v, j);
-        i += 1;
+    let mut x = 0;
+    while x < n {
+        scales[x] = scale_of(table, floored(map[x] as u64, t0));
+        x += 1;
     }
 }
 
-// The map entries and the cleared pixels of the rectangle o of the frame, which lies in the box.
-pub fn write(
-    map: &mut [u16],
-    picture: &mut [u8],
-    frame: &[u8],
-    work: &[i64],
-    z: Size,
-    b: Size,
-    top: usize,
-    left: usize,
-    k: Settings,
-    a: Rgb,
-    o: Rect,
-)
-    requires { ⌜ Given (described z) (described b) top left k a (now frame) ⌝ }
-    requires { ⌜ Lined (now work) (described b) (fit (described b) k a (shown (described z) top left (now frame))) ⌝ }
-    requires { ⌜ Target (described z) (described b) top left o (now map) (now picture) ⌝ }
-    ensures map { λ _. ⌜ now (map .exit) ≡ mapWith (described z) (near 0 o) (newMap (described z) (described b) top left k a (now (frame .entry))) (now (map .entry)) ⌝ }
-    ensures picture { λ _. ⌜ now (picture .exit) ≡ frameWith (described z) (near 0 o) (newPicture (described z) (described b) top left k a (now (frame .entry))) (now (picture .entry)) ⌝ }
+// The cleared pixels of n pixels of the frame from position p on go to the front of the part.
+fn recover_row(picture: &mut [u8], frame: &[u8], p: usize, n: usize, a: Rgb, scales: &[u32])
+    requires { ⌜ (3 * n ≤ length (now picture)) × (3 * (p + n) ≤ length (now frame)) × (n ≤ length (now scales)) ⌝ }
+    ensures { λ _. ⌜ ((T : ℕ → ℕ) → Floored T n → Scales T n (now (scales .entry))
+        → Run (bytesOf (clearedBy a (now (frame .entry)) p T)) (3 * p) (3 * n) (now (picture .entry)) (now (picture .exit))) ⌝ }
 {
-    let h = o.h;
-    let mut j = 0;
-    while j < h {
-        let y = o.y + j;
-        let row = y * z.w;
-        let from = row + o.x;
-        let end = row + z.w;
-        let from3 = 3 * from;
-        let end3 = 3 * end;
-        write_run(
-            &mut map[from..end],
-            &mut picture[from3..end3],
-            frame,
-            work,
-            z,
-            b,
-            top,
-            left,
-            k,
-            a,
+    let mut x = 0;
+    while x < n {
+        let k = scales[x];
+        let i = pixel_at(frame, p + x);
+        let q = 3 * x;
+        picture[q] = recovered(a.r, i.r, k);
+        picture[q + 1] = recovered(a.g, i.g, k);
+        picture[q + 2] = recovered(a.b, i.b, k);
+        x += 1;
+    }
+}
+
+// The map entries of the view `to` of the frame, from the lines at `lines`, of which `v` is the view with the same pixels.
+pub fn write_map(
+    map: &mut [u16],
+    frame: &[u8],
+    to: View,
+    work: &[i64],
+    lines: usize,
+    v: View,
+    r: usize,
+)
+    requires { ⌜ InPlane to × InPlane v × (v .wide ≡ to .wide) × (v .tall ≡ to .tall) × (r ≤ 60) ⌝ }
+    requires { ⌜ (length (now map) ≡ to .w * to .h) × (length (now frame) ≡ 3 * (to .w * to .h)) × Lining (now work) lines (v .w) (v .h) ⌝ }
+    ensures map { λ _. ⌜ ((F : Plane Line) → Lined (now (work .entry)) lines (v .w) (v .h) F
+        → now (map .exit) ≡ mapWith (whole to) (near 0 (rectOf to)) (refinedBy to v r (pixels (whole to) (now (frame .entry))) F) (now (map .entry))) ⌝ }
+    ensures held { λ _. ⌜ Entries to (now (map .exit)) ⌝ }
+{
+    let mut slopes = [0i64; 1152];
+    let mut offsets = [0i64; 1152];
+    let mut one = [0i64; 1024];
+    let mut two = [0i64; 1024];
+    let mut ns = [0u64; 1024];
+    let mut over = [0u64; 1024];
+    let mut table = [0u64; 14642];
+    let second = lines + v.w * v.h;
+    begin(&mut slopes[..], &work[lines..], v, r);
+    begin(&mut offsets[..], &work[second..], v, r);
+    let mut known = 0;
+    let mut y = 0;
+    while y < v.tall {
+        known = resize(v, r, y, known, &mut table[..], &mut ns[..], &mut over[..]);
+        next(
+            &mut slopes[..],
+            &mut offsets[..],
+            &work[lines..],
+            &work[second..],
+            v,
+            r,
             y,
-            o.x,
-            o.w,
+            &mut one[..],
+            &mut two[..],
         );
-        j += 1;
+        let p = row_start(to, y);
+        refine_row(
+            &mut map[p..],
+            frame,
+            p,
+            v.wide,
+            &one[..],
+            &two[..],
+            &ns[..],
+            &over[..],
+        );
+        y += 1;
     }
 }
 
-// n bytes of src, from a place on, go to the front of the part.
-fn copy_run(part: &mut [u8], src: &[u8], from: usize, n: usize)
-    requires { ⌜ (n ≤ length (now part)) × (from + n ≤ length (now src)) ⌝ }
-    ensures { λ _. ⌜ Run (λ i. getD (now (src .entry)) i 0) from n (now (part .entry)) (now (part .exit)) ⌝ }
+// The cleared pixels of the view `to` of the frame, from its map entries.
+pub fn write_picture(picture: &mut [u8], map: &[u16], frame: &[u8], to: View, a: Rgb, t0: u64)
+    requires { ⌜ InPlane to × (0 < t0) × (t0 ≤ 10000) × (length (now map) ≡ to .w * to .h) × Entries to (now map) ⌝ }
+    requires { ⌜ (length (now frame) ≡ 3 * (to .w * to .h)) × (length (now picture) ≡ 3 * (to .w * to .h)) ⌝ }
+    ensures { λ _. ⌜ now (picture .exit) ≡ frameWith (whole to) (near 0 (rectOf to))
+        (recoveredBy a t0 (pixels (whole to) (now (frame .entry))) (values (whole to) (now (map .entry)))) (now (picture .entry)) ⌝ }
 {
-    let mut p = 0;
-    while p < n {
-        part[p] = src[from + p];
-        p += 1;
-    }
-}
-
-// The new pixels go into the frame at their rectangle.
-pub fn paste(frame: &mut [u8], z: Size, c: Rect, new: &[u8])
-    requires { ⌜ GoodRect (described z) c × (length (now frame) ≡ 3 * (z .w * z .h)) × (length (now new) ≡ 3 * (c .w * c .h)) ⌝ }
-    ensures { λ _. ⌜ now (frame .exit) ≡ pasted (described z) c (now (new .entry)) (now (frame .entry)) ⌝ }
-{
-    let h = c.h;
-    let mut j = 0;
-    while j < h {
-        let from = 3 * ((c.y + j) * z.w + c.x);
-        copy_run(&mut frame[from..], new, 3 * (j * c.w), 3 * c.w);
-        j += 1;
+    let mut table = [0u32; 10001];
+    let mut scales = [0u32; 1024];
+    let mut y = 0;
+    while y < to.tall {
+        let from = row_start(to, y);
+        let from3 = 3 * from;
+        scale_row(&mut scales[..], to.wide, &map[from..], t0, &mut table[..]);
+        recover_row(&mut picture[from3..], frame, from, to.wide, a, &scales[..]);
+        y += 1;
     }
 }

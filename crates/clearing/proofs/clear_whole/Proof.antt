@@ -1,10 +1,10 @@
--- `clearing::clear_whole` meets its contract: the whole frame is a box that sees all. Assumes nothing.
+-- `clearing::clear_whole` meets its contract: the whole frame sees all of itself. Assumes nothing.
 use mathlib.Core.Path.{_∙_}
 use Rattle.rules.specs.Shape.{described}
 use Rattle.rules.specs.Transmission.{refined}
 use Rattle.rules.specs.Picture.{cleared}
-use Rattle.rules.specs.Buffers.{pixels, values, clear, reach}
-use Rattle.clearing.proofs.Grown.{covers-all, whole-target, entries-all, bytes-all}
+use Rattle.rules.specs.Buffers.{pixels, values, clear}
+use Rattle.clearing.proofs.Grown.{nested-all, entries-all, bytes-all}
 use borrow.Author.Needs.{needs}
 use Rattle.clearing.proofs.clear_whole.Statement.{statement}
 use Rattle.clearing.proofs.clear_whole.Tie as tie
@@ -13,9 +13,7 @@ refresh-requires : tie.Need-refresh-requires
 refresh-requires c κs =
     let s = c .before .before .before .before .before .before in
     let d = s .args in
-    let z = described (d .z) in
-    let l = s .pre .1 in
-    (s .pre .0, (whole-target z (d .map .now) (d .picture .now) (l .entries) (l .bytes), (covers-all z (reach (d .k)), l .space)))
+    ((s .pre .0, nested-all (described (d .z)) (d .k) (s .pre .0 .size)), s .pre .1)
 
 same-length : tie.Need-same-length
 same-length c = search needs

@@ -1,12 +1,12 @@
--- `clearing::replace_whole` meets its contract: box and rectangle are those of the grown new pixels, and the box sees far enough. Assumes nothing.
+-- `clearing::replace_whole` meets its contract: box, lines and rectangle are those of the grown new pixels, and each sees far enough in the one before. Assumes nothing.
 use mathlib.Core.Path.{_∙_, ap}
 use mathlib.Core.List.{List}
-use Prim.Native.Nat.{ℕ, _*_}
+use Prim.Native.Nat.{ℕ, _+_, _*_}
 use Rattle.rules.specs.Shape.{described}
 use Rattle.rules.specs.Transmission.{refined}
 use Rattle.rules.specs.Picture.{cleared}
 use Rattle.rules.specs.Buffers.{pixels, values, entries, bytes, patch, near, replace, reach}
-use Rattle.clearing.proofs.Grown.{grown-by, grown-given, grown-target, grown-covers, grown-entries, grown-bytes}
+use Rattle.clearing.proofs.Grown.{grown-by, nested-grown, grown-entries, grown-bytes, given-after}
 use native.Mathlib.Omega.{arith}
 use borrow.Author.Needs.{needs}
 use Rattle.clearing.proofs.replace_whole.Statement.{statement}
@@ -27,28 +27,34 @@ mul-grow c = search needs
 grow-requires : tie.Need-grow-requires
 grow-requires c κs = search needs
 
+add-grow : tie.Need-add-grow
+add-grow c = search needs
+
 grow-requires-2 : tie.Need-grow-requires-2
 grow-requires-2 c κs = search needs
+
+grow-requires-3 : tie.Need-grow-requires-3
+grow-requires-3 c κs = c .before .before .before .before .before .before .before .before .before .before .before .before .before .pre .1 .1 .0
 
 refresh-requires : tie.Need-refresh-requires
 refresh-requires c κs =
     let g = c .before .before .before .before in
-    let s = c .before .before .before .before .before .before .before .before .before .before .before .before .before .before .before .before in
+    let s = g .before .before .before .before .before .before .before .before .before .before .before .before .before .before in
     let d = s .args in
     let z = described (d .z) in
     let q = reach (d .k) in
     let i = s .pre .1 .1 .0 in
     let l = s .pre .1 .0 in
-    let f = g .before .grow in
-    let o = g .grow2 in
-    let box = grown-by z (d .c) (f .result) (2 * q) (f .ensures) (omega arith) in
-    let rect = grown-by z (d .c) (o .result) q (o .ensures) (omega arith) in
-    let p = c .before .before .before .before .before .before .before .before .before .before .paste in (
-      grown-given z q (d .c) i (f .result) (o .result) box rect (d .k) (d .a) (d .frame .now) (p .last .0) (p .kept .0) (s .pre .0),
+    let f = g .before .before .before .grow in
+    let p = g .before .grow2 in
+    let o = g .grow3 in
+    let paste = g .before .before .before .before .before .before .before .before .paste in (
       (
-        grown-target z q (d .c) i (f .result) (o .result) box rect (d .map .now) (d .picture .now) (l .entries) (l .bytes),
-        (grown-covers z q (d .c) i (f .result) (o .result) box rect, l .space),
+        given-after z (d .k) (d .a) (d .frame .now) (paste .last .0) (paste .kept .0) (s .pre .0),
+        nested-grown z (d .c) i (d .k) (f .result) (p .result) (o .result) (grown-by z (d .c) (f .result) (2 * q) (f .ensures) (omega arith))
+            (grown-by z (d .c) (p .result) (q + d .k .r) (p .ensures) (omega arith)) (grown-by z (d .c) (o .result) q (o .ensures) (omega arith)),
       ),
+      l,
     )
 
 same-length : tie.Need-same-length
@@ -66,25 +72,24 @@ same-length-4 c = search needs
 returns : tie.Need-returns
 unfolding replace
 returns c =
-    let r = c .before .before .before .before .before .refresh in
-    let g = c .before .before .before .before .before .before .before .before .before .before in
-    let s = c .before .before .before .before .before .before .before .before .before .before .before .before .before .before .before .before .before .before .before .before .before .before in
+    let t = c .before .before .before .before .before in
+    let r = t .refresh in
+    let g = t .before .before .before .before .before in
+    let s = g .before .before .before .before .before .before .before .before .before .before .before .before .before .before in
     let d = s .args in
     let z = described (d .z) in
     let q = reach (d .k) in
     let i = s .pre .1 .1 .0 in
-    let f = g .before .grow in
-    let o = g .grow2 in
-    let box = grown-by z (d .c) (f .result) (2 * q) (f .ensures) (omega arith) in
+    let o = g .grow3 in
     let rect = grown-by z (d .c) (o .result) q (o .ensures) (omega arith) in
-    let frame = c .before .before .before .before .before .before .before .before .before .before .before .before .before .before .before .before .paste .ensures in
+    let frame = g .before .before .before .before .before .before .before .before .paste .ensures in
     let m =
     r .ensures .0
-    ∙ grown-entries z q (d .c) i (f .result) (o .result) box rect _ (values z (d .map .now))
+    ∙ grown-entries z (d .c) i q (o .result) rect _ (values z (d .map .now))
     ∙ ap (λ (l : List ℕ). entries z (patch (near q (d .c)) (refined z (d .k) (d .a) (pixels z l)) (values z (d .map .now)))) frame in
     let p =
     r .ensures .1 .0
-    ∙ grown-bytes z q (d .c) i (f .result) (o .result) box rect _ (pixels z (d .picture .now))
+    ∙ grown-bytes z (d .c) i q (o .result) rect _ (pixels z (d .picture .now))
     ∙ ap (λ (l : List ℕ). bytes z (patch (near q (d .c)) (cleared z (d .k) (d .a) (pixels z l)) (pixels z (d .picture .now)))) frame in
     let w = r .ensures .1 .1 in
     λ i. record { frame = frame i; map = m i; picture = p i; work = w i }
@@ -98,7 +103,9 @@ replace-whole-spec =
     add-q
     mul-grow
     grow-requires
+    add-grow
     grow-requires-2
+    grow-requires-3
     refresh-requires
     same-length
     same-length-2

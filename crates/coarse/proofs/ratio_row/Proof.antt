@@ -1,34 +1,43 @@
 -- `coarse::ratio_row` meets its contract. The loop's invariant is the contract at x pixels. Assumes nothing.
-use mathlib.Core.Path.{_≡_, refl, _∙_}
-use Prim.Native.Nat.{_+_, _-_, _≤_}
+use mathlib.Core.Path.{_≡_, refl, ap, _∙_}
+use Prim.Native.Nat.{ℕ, _+_, _-_, _≤_, _<_}
 use native.Mathlib.Omega.{arith}
-use lib.ListN.{length}
-use lib.IntN.{pos}
+use lib.ListN.{length, length-set, getD}
 use Rattle.rules.specs.Buffers.{pixelAt}
 use Rattle.rules.specs.Transmission.{leastRatio}
-use Rattle.planes.specs.Put.{RowPut}
-use Rattle.planes.proofs.Puts.{row-none, row-more}
+use Rattle.coarse.proofs.Rows.{row-more}
 use Rattle.coarse.proofs.ratio_row.Statement.{statement}
 use Rattle.coarse.proofs.ratio_row.Tie as tie
 
 abbrev Inv-loop : tie.InvT-loop
-Inv-loop work₀ frame w h y first a x₀ work x =
-    (x ≤ w) × (length work ≡ length work₀) × RowPut work₀ work w h 0 1 (λ _ u. pos (leastRatio a (pixelAt frame (first + u)))) y x
+Inv-loop row₀ frame p n a k x₀ row x =
+    (x ≤ n) × (length row ≡ length row₀) × ((i : ℕ) → i < x → getD row i 0 ≡ leastRatio a (pixelAt frame (p + i)))
 
 abbrev μ-loop : tie.MeasureT-loop
-μ-loop work₀ frame w h y first a x₀ work x = w - x
+μ-loop row₀ frame p n a k x₀ row x = n - x
 
 loop-holds : tie.Need-loop-holds Inv-loop μ-loop
-loop-holds c = (omega arith, refl, row-none _ _ _ _ _ _ _)
+loop-holds c = (omega arith, refl, λ i h. absurd (omega arith))
 
-add-put-ratio : tie.Need-add-put-ratio Inv-loop μ-loop
-add-put-ratio c = let s = c .before .before .before .before in omega (arith, s .pre .2, s .good)
+add-pixel-at : tie.Need-add-pixel-at Inv-loop μ-loop
+add-pixel-at c = omega arith
 
-put-ratio-requires : tie.Need-put-ratio-requires Inv-loop μ-loop
-put-ratio-requires c κs =
-    let i = c .before in
-    let s = i .before .before .before in
-    (s .pre .0, i .loop-test .taken, omega (arith, s .pre .1, i .before .loop .inv .1), omega (arith, s .pre .2, i .loop-test .taken), s .pre .3)
+pixel-at-requires : tie.Need-pixel-at-requires Inv-loop μ-loop
+pixel-at-requires c κs = omega arith
+
+least-ratio-requires : tie.Need-least-ratio-requires Inv-loop μ-loop
+least-ratio-requires c κs =
+    let s = c .before .before .before .before .before in
+    (s .pre .2, s .pre .3)
+
+cast-row : tie.Need-cast-row Inv-loop μ-loop
+cast-row c = omega (arith, c .least-ratio .ensures)
+
+mul-row : tie.Need-mul-row Inv-loop μ-loop
+mul-row c = omega arith
+
+slice-write-row : tie.Need-slice-write-row Inv-loop μ-loop
+slice-write-row c = omega arith
 
 add-x : tie.Need-add-x Inv-loop μ-loop
 add-x c = omega arith
@@ -38,11 +47,12 @@ loop-less c = omega arith
 
 loop-again : tie.Need-loop-again Inv-loop μ-loop
 loop-again c =
-    let i = c .before .before .before in
-    let l = i .before in (
+    let l = c .before .before .before .loop in
+    let d = c .before .before .before .before .before .before .args in (
       omega arith,
-      c .before .put-ratio .kept .0 ∙ l .loop .inv .1,
-      row-more _ _ _ _ _ _ _ _ _ (l .loop .x) (l .before .before .pre .0) (i .loop-test .taken) (l .loop .inv .2) (c .before .put-ratio .ensures),
+      length-set (l .row) (l .x) _ ∙ l .inv .1,
+      row-more (λ i. leastRatio (d .a) (pixelAt (d .frame .now) (d .p + i))) (l .row) (l .x) _ (slice-write-row c)
+          (c .least-ratio .ensures ∙ ap (leastRatio (d .a)) (c .before .pixel-at .ensures)) (l .inv .2),
     )
 
 same-length : tie.Need-same-length Inv-loop μ-loop
@@ -50,7 +60,7 @@ same-length c = c .before .loop .inv .1
 
 returns : tie.Need-returns Inv-loop μ-loop
 returns c =
-    let e : c .before .loop .x ≡ c .before .before .before .args .w = omega arith in
+    let e : c .before .loop .x ≡ c .before .before .before .before .args .n = omega arith in
     rw e at (c .before .loop .inv .2)
 
 pub ratio-row-spec : {M : Type 1} → statement M
@@ -60,8 +70,12 @@ ratio-row-spec =
     Inv-loop
     μ-loop
     loop-holds
-    add-put-ratio
-    put-ratio-requires
+    add-pixel-at
+    pixel-at-requires
+    least-ratio-requires
+    cast-row
+    mul-row
+    slice-write-row
     add-x
     loop-less
     loop-again

@@ -1,70 +1,241 @@
--- `filter::fit` meets its contract. The loop's invariant is the contract at y rows. Assumes nothing.
+-- `filter::fit` meets its contract. Before each row the loop's invariant is `Going`. Assumes nothing.
+use Prim.Native.Nat.{_+_, _-_, _*_, _≤_, _<_}
+use mathlib.Core.Path.{_∙_, refl, sym}
+use native.Mathlib.Omega.{arith}
+use Rattle.planes.specs.Stage.{Sampled}
+use Rattle.planes.proofs.Shown.{row-end, box-area, box-short}
+use Rattle.sums.proofs.Lent.{zeros}
+use Rattle.sizes.proofs.Counts.{table-none}
+use Rattle.filter.proofs.Going.{Going, going-start, going-more, going-end, going-sampled, Summed, Rooms, row-in}
+use Rattle.filter.proofs.Samples.{first-summable, second-summable}
 use Rattle.filter.proofs.fit.Statement.{statement}
 use Rattle.filter.proofs.fit.Tie as tie
-use Prim.Native.Nat.{_*_, _-_, _≤_}
-use mathlib.Core.Path.{_≡_, _∙_, refl}
-use lib.ListN.{length}
-use native.Mathlib.Omega.{arith}
-use Rattle.rules.specs.Window.{Plane}
-use Rattle.rules.specs.Transmission.{Sample}
-use Rattle.planes.specs.Plane.{plane, Kept}
-use Rattle.planes.specs.Put.{PlanesPut}
-use Rattle.planes.proofs.Puts.{planes-none, planes-more, outside}
-use Rattle.filter.specs.Fit.{Imaged, fitted}
-use Rattle.filter.proofs.Lines.{imaged-still, fit-still}
 
 abbrev Inv-loop : tie.InvT-loop
-Inv-loop work₀ w h r e y₀ work y =
-    (y ≤ h) × (length work ≡ length work₀) × ((S : Plane Sample) → Imaged work₀ w h S → PlanesPut work₀ work w h 4 2 (fitted S w h r e) y)
+Inv-loop work₀ v r e products₀ squares₀ one₀ two₀ ns₀ over₀ table₀ wide tall plane slopes offsets known₀ y₀ work products squares one two ns over table known y =
+    Going v r e work₀ work products squares table known ns over y × Rooms one two ns over
 
 abbrev μ-loop : tie.MeasureT-loop
-μ-loop work₀ w h r e y₀ work y = h - y
+μ-loop work₀ v r e products₀ squares₀ one₀ two₀ ns₀ over₀ table₀ wide tall plane slopes offsets known₀ y₀ work products squares one two ns over table known y =
+    tall - y
 
--- what has been written lies in planes 4 and 5
-kept : (t : tie.In-loop Inv-loop μ-loop) → let h = t .before in let a = h .before .args in Kept (a .work .now) (h .loop .work) (4 * plane (a .w) (a .h)) (6 * plane (a .w) (a .h))
-kept t =
-    let h = t .before in
-    let a = h .before .args in
-    let p = h .before .pre .images in
-    outside (a .work .now) (h .loop .work) (a .w) (a .h) 4 2 _ (h .loop .y) (h .loop .inv .0) (h .loop .inv .2 (p .of) (p .imaged))
+abbrev start : tie.In-loop Inv-loop μ-loop → tie.Start Inv-loop μ-loop
+start t = t .before .before .before .before .before .before .before .before .before .before .before .before
+
+-- the samples stand as they did at the start
+sampled : (t : tie.In-loop Inv-loop μ-loop) → let a = start t in Sampled (t .before .loop .work) (a .args .v .w) (a .args .v .h) (a .pre .1 .0 .S)
+sampled t =
+    let s = start t in
+    let i = t .before .loop .inv .0 in
+    going-sampled i (s .pre .0 .0) (s .pre .0 .1) (t .loop-test .taken) (s .pre .1 .0 .sampled)
+
+-- where the row ends
+last : (t : tie.In-loop Inv-loop μ-loop) → let v = start t .args .v in t .before .loop .y * v .wide + v .wide ≤ v .wide * v .tall
+last t = let v = start t .args .v in row-end (v .wide) (v .tall) (t .before .loop .y) (t .loop-test .taken)
+
+-- sizes that keep every index in 64 bits
+area : (t : tie.In-loop Inv-loop μ-loop) → let v = start t .args .v in (v .wide * v .tall ≤ 262144) × (v .w * v .h ≤ 262144) × (v .tall ≤ 1024)
+area t =
+    let s = start t in
+    let i = s .pre .0 .0 in
+    (box-area (s .args .v) i, i .area, omega (arith, i .low, i .fits .rows))
+
+-- a turn, while the planes and the columns are lent
+abbrev lending : tie.After-squares3 Inv-loop μ-loop → tie.In-loop Inv-loop μ-loop
+lending c = c .before .before .before .before .before .before .before .before .before .before
+
+-- a turn, after the row's sums
+abbrev turn : tie.After-two2 Inv-loop μ-loop → tie.In-loop Inv-loop μ-loop
+turn d = d .before .before .before .before .before .before .before .before .before .before .before .before .before .before .before .before .before .before
+
+abbrev resized : tie.After-two2 Inv-loop μ-loop → tie.After-resize Inv-loop μ-loop
+resized d = d .before .before .before .before .before .before .before .before .before .before .before .before .before .before
+
+abbrev both : tie.After-two2 Inv-loop μ-loop → tie.After-next Inv-loop μ-loop
+both d = d .before .before .before .before
+
+summed : (d : tie.After-two2 Inv-loop μ-loop) → let t = turn d in
+    Summed (start t .args .v) (start t .args .r) (t .before .loop .y) (t .before .loop .work) (both d .next .last .1 .1 .1 .1 .1 .1 .1 .0) (both d .next .last .1 .1 .1 .1 .1 .1 .1 .1 .0)
+    (resized d .resize .result) (resized d .resize .last .1 .1 .1 .1 .1 .0) (resized d .resize .last .1 .1 .1 .1 .1 .1 .0)
+summed d = record {
+  rows-are = resized d .resize .ensures .0;
+  sizes = resized d .resize .ensures .1 .1;
+  first = both d .next .ensures .1 .0;
+  second = both d .next .ensures .1 .1;
+}
+
+rooms : (d : tie.After-two2 Inv-loop μ-loop)
+    → Rooms (both d .next .last .1 .1 .1 .1 .1 .1 .1 .0) (both d .next .last .1 .1 .1 .1 .1 .1 .1 .1 .0) (resized d .resize .last .1 .1 .1 .1 .1 .0)
+    (resized d .resize .last .1 .1 .1 .1 .1 .1 .0)
+rooms d =
+    let i = turn d .before .loop .inv .1 in
+    record {
+      us-long = both d .next .kept .1 .1 .1 .1 .1 .1 .1 .0 ∙ i .us-long;
+      vs-long = both d .next .kept .1 .1 .1 .1 .1 .1 .1 .1 .0 ∙ i .vs-long;
+      ns-long = resized d .resize .kept .1 .1 .1 .1 .1 .0 ∙ i .ns-long;
+      inverses-long = resized d .resize .kept .1 .1 .1 .1 .1 .1 .0 ∙ i .inverses-long;
+    }
+
+mul-plane : tie.Need-mul-plane Inv-loop μ-loop
+mul-plane c = omega (arith, c .before .pre .0 .0 .area)
+
+mul-slopes : tie.Need-mul-slopes Inv-loop μ-loop
+mul-slopes c = omega (arith, c .before .pre .0 .0 .area)
+
+mul-offsets : tie.Need-mul-offsets Inv-loop μ-loop
+mul-offsets c = omega (arith, box-area (c .before .args .v) (c .before .pre .0 .0))
+
+add-offsets : tie.Need-add-offsets Inv-loop μ-loop
+add-offsets c = omega (arith, box-area (c .before .args .v) (c .before .pre .0 .0), c .before .pre .0 .0 .area)
+
+slice-aggregate-begin : tie.Need-slice-aggregate-begin Inv-loop μ-loop
+slice-aggregate-begin c = refl
+
+begin-requires : tie.Need-begin-requires Inv-loop μ-loop
+begin-requires c κs =
+    let s = c .before .before .before in
+    (first-summable (s .args .v) (s .args .r) (s .pre .0 .0) (s .pre .0 .1) (s .pre .1 .0 .sampled), refl, zeros 1152)
+
+slice-aggregate-begin-2 : tie.Need-slice-aggregate-begin-2 Inv-loop μ-loop
+slice-aggregate-begin-2 c = refl
+
+mul-begin : tie.Need-mul-begin Inv-loop μ-loop
+mul-begin c = omega (arith, c .before .before .before .before .before .before .pre .0 .0 .area)
+
+sub-begin : tie.Need-sub-begin Inv-loop μ-loop
+sub-begin c = omega (arith, c .before .before .before .before .before .before .pre .1 .0 .sampled .room)
+
+part-begin-start : tie.Need-part-begin-start Inv-loop μ-loop
+part-begin-start c = omega (arith, c .before .before .before .before .before .before .before .pre .1 .0 .sampled .room)
+
+part-begin-end : tie.Need-part-begin-end Inv-loop μ-loop
+part-begin-end c = omega (arith, c .before .before .before .before .before .before .before .pre .1 .0 .sampled .room)
+
+begin-requires-2 : tie.Need-begin-requires-2 Inv-loop μ-loop
+begin-requires-2 c κs =
+    let s = c .before .before .before .before .before .before .before .before in
+    (second-summable (s .args .v) (s .args .r) (s .pre .0 .0) (s .pre .0 .1) (s .pre .1 .0 .sampled), refl, zeros 1152)
 
 loop-holds : tie.Need-loop-holds Inv-loop μ-loop
-loop-holds c = (omega arith, refl, λ S i. planes-none _ _ _ _ _ _)
+loop-holds c =
+    (going-start (c .before .before .before .before .before .before .begin .ensures) (c .before .begin2 .ensures) table-none, record { us-long = refl; vs-long = refl; ns-long = refl; inverses-long = refl })
+
+slice-aggregate-resize : tie.Need-slice-aggregate-resize Inv-loop μ-loop
+slice-aggregate-resize c = sym (c .before .before .loop .inv .0 .known-table .long)
+
+slice-aggregate-resize-2 : tie.Need-slice-aggregate-resize-2 Inv-loop μ-loop
+slice-aggregate-resize-2 c = sym (c .before .before .before .loop .inv .1 .ns-long)
+
+slice-aggregate-resize-3 : tie.Need-slice-aggregate-resize-3 Inv-loop μ-loop
+slice-aggregate-resize-3 c = sym (c .before .before .before .before .loop .inv .1 .inverses-long)
+
+resize-requires : tie.Need-resize-requires Inv-loop μ-loop
+resize-requires c κs =
+    let t = c .before .before .before in
+    let p = start t .pre .0 in
+    let i = t .before .loop .inv in
+    let wide = box-short (p .0) in
+    ((p .0, p .1, t .loop-test .taken, i .0 .known-table, rw (i .1 .ns-long) wide, rw (i .1 .inverses-long) wide), i .0 .known-sizes)
+
+slice-aggregate-next : tie.Need-slice-aggregate-next Inv-loop μ-loop
+slice-aggregate-next c = sym (c .before .before .before .before .before .before .before .before .before .before .loop .inv .0 .first .long)
+
+slice-aggregate-next-2 : tie.Need-slice-aggregate-next-2 Inv-loop μ-loop
+slice-aggregate-next-2 c = sym (lending c .before .loop .inv .0 .second .long)
+
+mul-next : tie.Need-mul-next Inv-loop μ-loop
+mul-next c = omega (arith, area (lending c))
+
+sub-next : tie.Need-sub-next Inv-loop μ-loop
+sub-next c = omega (arith, sampled (lending c) .room)
+
+part-next-start : tie.Need-part-next-start Inv-loop μ-loop
+part-next-start c = omega (arith, sampled (lending c) .room)
+
+part-next-end : tie.Need-part-next-end Inv-loop μ-loop
+part-next-end c = omega (arith, sampled (lending c) .room)
+
+slice-aggregate-next-3 : tie.Need-slice-aggregate-next-3 Inv-loop μ-loop
+slice-aggregate-next-3 c = sym (lending (c .before .before) .before .loop .inv .1 .us-long)
+
+slice-aggregate-next-4 : tie.Need-slice-aggregate-next-4 Inv-loop μ-loop
+slice-aggregate-next-4 c = sym (lending (c .before .before .before) .before .loop .inv .1 .vs-long)
+
+next-requires : tie.Need-next-requires Inv-loop μ-loop
+next-requires c κs =
+    let t = lending (c .before .before .before) in
+    let s = start t in
+    let v = s .args .v in
+    let r = s .args .r in
+    let p = s .pre .0 in
+    let i = t .before .loop .inv in
+    let wide = box-short (p .0) in (
+      (first-summable v r (p .0) (p .1) (sampled t), second-summable v r (p .0) (p .1) (sampled t), t .loop-test .taken, rw (i .1 .us-long) wide, rw (i .1 .vs-long) wide),
+      (i .0 .first, i .0 .second),
+    )
+
+mul-a : tie.Need-mul-a Inv-loop μ-loop
+mul-a c = omega (arith, last (turn c), area (turn c))
+
+add-a : tie.Need-add-a Inv-loop μ-loop
+add-a c = omega (arith, last (turn c), area (turn c))
+
+mul-b : tie.Need-mul-b Inv-loop μ-loop
+mul-b c = omega (arith, last (turn c), area (turn c))
+
+add-b : tie.Need-add-b Inv-loop μ-loop
+add-b c = omega (arith, last (turn c), area (turn c))
+
+slice-aggregate-fit-row : tie.Need-slice-aggregate-fit-row Inv-loop μ-loop
+slice-aggregate-fit-row c = sym (rooms (c .before .before) .us-long)
+
+slice-aggregate-fit-row-2 : tie.Need-slice-aggregate-fit-row-2 Inv-loop μ-loop
+slice-aggregate-fit-row-2 c = sym (rooms (c .before .before .before) .vs-long)
+
+slice-aggregate-fit-row-3 : tie.Need-slice-aggregate-fit-row-3 Inv-loop μ-loop
+slice-aggregate-fit-row-3 c = sym (rooms (c .before .before .before .before) .ns-long)
+
+slice-aggregate-fit-row-4 : tie.Need-slice-aggregate-fit-row-4 Inv-loop μ-loop
+slice-aggregate-fit-row-4 c = sym (rooms (c .before .before .before .before .before) .inverses-long)
 
 fit-row-requires : tie.Need-fit-row-requires Inv-loop μ-loop
 fit-row-requires c κs =
-    let t = c .before in
-    let h = t .before in
-    let a = h .before .args in
-    (fit-still (a .work .now) (h .loop .work) (a .w) (a .h) (h .loop .inv .1) (kept t) (a .r) (a .e) (h .before .pre), t .loop-test .taken)
+    let d = c .before .before .before .before .before in
+    let t = turn d in
+    let s = start t in
+    let p = s .pre .0 in
+    (row-in (p .0) (p .1) (t .loop-test .taken) (summed d) (sampled t) (omega (arith, s .pre .1 .1, t .before .loop .inv .0 .long)) (rooms d), p .2, p .3)
 
 add-y : tie.Need-add-y Inv-loop μ-loop
-add-y c = omega arith
+add-y c =
+    let t = turn (c .before .before .before .before .before .before .before) in
+    omega (arith, t .loop-test .taken, area t)
 
 loop-less : tie.Need-loop-less Inv-loop μ-loop
-loop-less c = omega arith
+loop-less c =
+    let t = turn (c .before .before .before .before .before .before .before) in
+    let l : t .before .loop .y < start t .args .v .tall = t .loop-test .taken in
+    omega arith
 
 loop-again : tie.Need-loop-again Inv-loop μ-loop
 loop-again c =
-    let f = c .before in
-    let t = f .before .before in
-    let h = t .before in
-    let a = h .before .args in
-    let i = h .loop .inv in (
-      omega arith,
-      f .fit-row .kept .0 ∙ i .1,
-      λ S s.
-          planes-more (a .work .now) (h .loop .work) (f .fit-row .last .0) (a .w) (a .h) 4 2 (fitted S (a .w) (a .h) (a .r) (a .e)) (h .loop .y) (t .loop-test .taken) (i .2 S s)
-          (f .fit-row .ensures S (imaged-still (a .work .now) (h .loop .work) (a .w) (a .h) (i .1) (kept t) S s)),
+    let d = c .before .before .before .before .before .before .before in
+    let t = turn d in
+    let p = start t .pre .0 in
+    let f = c .before .fit-row in (
+      going-more (t .before .loop .inv .0) (p .0) (p .1) (t .loop-test .taken) (summed d) (resized d .resize .ensures .1 .0) (both d .next .ensures .0 .0) (both d .next .ensures .0 .1)
+          (f .kept .0) (f .ensures),
+      rooms d,
     )
 
 same-length : tie.Need-same-length Inv-loop μ-loop
-same-length c = c .before .loop .inv .1
+same-length c = c .before .loop .inv .0 .long
 
 returns : tie.Need-returns Inv-loop μ-loop
-returns c S s =
-    let e : c .before .loop .y ≡ c .before .before .args .h = omega arith in
-    rw e at (c .before .loop .inv .2 S s)
+returns c =
+    let s = c .before .before .before .before .before .before .before .before .before .before .before .before in
+    let g = c .before .loop .inv .0 in
+    (going-end g (omega arith) (s .pre .1 .1), g .after)
 
 pub fit-spec : {M : Type 1} → statement M
 fit-spec =
@@ -72,7 +243,40 @@ fit-spec =
     (tie.spec
     Inv-loop
     μ-loop
+    mul-plane
+    mul-slopes
+    mul-offsets
+    add-offsets
+    slice-aggregate-begin
+    begin-requires
+    slice-aggregate-begin-2
+    mul-begin
+    sub-begin
+    part-begin-start
+    part-begin-end
+    begin-requires-2
     loop-holds
+    slice-aggregate-resize
+    slice-aggregate-resize-2
+    slice-aggregate-resize-3
+    resize-requires
+    slice-aggregate-next
+    slice-aggregate-next-2
+    mul-next
+    sub-next
+    part-next-start
+    part-next-end
+    slice-aggregate-next-3
+    slice-aggregate-next-4
+    next-requires
+    mul-a
+    add-a
+    mul-b
+    add-b
+    slice-aggregate-fit-row
+    slice-aggregate-fit-row-2
+    slice-aggregate-fit-row-3
+    slice-aggregate-fit-row-4
     fit-row-requires
     add-y
     loop-less

@@ -1,71 +1,121 @@
--- `filter::fit_row` meets its contract. The loop's invariant is the contract at x pixels. Assumes nothing.
+-- `filter::fit_row` meets its contract. The loop's invariant is the contract at i pixels. Assumes nothing.
+use Prim.Native.Nat.{_-_, _≤_, _<_}
+use mathlib.Core.Path.{_≡_, refl, _∙_}
+use native.Mathlib.Omega.{arith}
+use lib.ListN.{length}
+use borrow.Author.Needs.{needs}
+use Rattle.filter.specs.Row.{RowIn, rowLine, RowLines}
+use Rattle.filter.proofs.Rows.{row-none, row-turn, u-cast, v-cast, read-moments, offset-in}
 use Rattle.filter.proofs.fit_row.Statement.{statement}
 use Rattle.filter.proofs.fit_row.Tie as tie
-use Prim.Native.Nat.{_*_, _-_, _≤_}
-use mathlib.Core.Path.{_≡_, _∙_, refl}
-use lib.ListN.{length}
-use native.Mathlib.Omega.{arith}
-use Rattle.rules.specs.Window.{Plane}
-use Rattle.rules.specs.Transmission.{Sample}
-use Rattle.planes.specs.Plane.{plane, Kept}
-use Rattle.planes.specs.Put.{RowPut}
-use Rattle.planes.proofs.Puts.{row-none, row-more, row-outside}
-use Rattle.filter.specs.Fit.{Imaged, fitted}
-use Rattle.filter.proofs.Lines.{imaged-still, fit-still}
 
 abbrev Inv-loop : tie.InvT-loop
-Inv-loop work₀ w h r e y x₀ work x =
-    (x ≤ w) × (length work ≡ length work₀) × ((S : Plane Sample) → Imaged work₀ w h S → RowPut work₀ work w h 4 2 (λ j u. fitted S w h r e j y u) y x)
+Inv-loop work₀ slopes offsets n products squares ns inverses e i₀ work i =
+    (i ≤ n) × (length work ≡ length work₀) × RowLines work₀ work slopes offsets i (rowLine products squares ns e)
 
 abbrev μ-loop : tie.MeasureT-loop
-μ-loop work₀ w h r e y x₀ work x = w - x
+μ-loop work₀ slopes offsets n products squares ns inverses e i₀ work i = n - i
 
--- what has been written lies in planes 4 and 5
-kept : (t : tie.In-loop Inv-loop μ-loop) → let h = t .before in let a = h .before .args in Kept (a .work .now) (h .loop .work) (4 * plane (a .w) (a .h)) (6 * plane (a .w) (a .h))
-kept t =
-    let h = t .before in
-    let a = h .before .args in
-    let p = h .before .pre in
-    row-outside (a .work .now) (h .loop .work) (a .w) (a .h) 4 2 _ (a .y) (h .loop .x) (p .1) (h .loop .inv .0) (h .loop .inv .2 (p .0 .images .of) (p .0 .images .imaged))
+abbrev start : tie.In-loop Inv-loop μ-loop → tie.Start Inv-loop μ-loop
+start t = t .before .before .before .before
+
+-- what the row is given
+given : (t : tie.In-loop Inv-loop μ-loop) → let a = start t .args in
+    RowIn (a .work .now) (a .slopes) (a .offsets) (a .n) (a .products .now) (a .squares .now) (a .ns .now) (a .inverses .now)
+given t = start t .pre .0
+
+-- the pixel of this turn
+less : (t : tie.In-loop Inv-loop μ-loop) → t .before .loop .i < start t .args .n
+less t = t .loop-test .taken
 
 loop-holds : tie.Need-loop-holds Inv-loop μ-loop
-loop-holds c = (omega arith, refl, λ S i. row-none _ _ _ _ _ _ _)
+loop-holds c = (omega arith, refl, row-none _ _ _ _)
 
-fit-pixel-requires : tie.Need-fit-pixel-requires Inv-loop μ-loop
-fit-pixel-requires c κs =
-    let t = c .before in
-    let h = t .before in
-    let a = h .before .args in
-    let p = h .before .pre in
-    (fit-still (a .work .now) (h .loop .work) (a .w) (a .h) (h .loop .inv .1) (kept t) (a .r) (a .e) (p .0), p .1, t .loop-test .taken)
+mul-u : tie.Need-mul-u Inv-loop μ-loop
+mul-u c = search needs
 
-add-x : tie.Need-add-x Inv-loop μ-loop
-add-x c = omega arith
+shared-slice-copy-out-u : tie.Need-shared-slice-copy-out-u Inv-loop μ-loop
+shared-slice-copy-out-u c = omega (arith, less c, given c .us-long)
+
+cast-u : tie.Need-cast-u Inv-loop μ-loop
+cast-u c = u-cast (given (c .before)) (c .before .before .loop .i) (less (c .before))
+
+mul-v : tie.Need-mul-v Inv-loop μ-loop
+mul-v c = search needs
+
+shared-slice-copy-out-v : tie.Need-shared-slice-copy-out-v Inv-loop μ-loop
+shared-slice-copy-out-v c = omega (arith, less (c .before), given (c .before) .vs-long)
+
+cast-v : tie.Need-cast-v Inv-loop μ-loop
+cast-v c = let t = c .before .before in v-cast (given t) (t .before .loop .i) (less t)
+
+mul-slope : tie.Need-mul-slope Inv-loop μ-loop
+mul-slope c = search needs
+
+shared-slice-read-slope : tie.Need-shared-slice-read-slope Inv-loop μ-loop
+shared-slice-read-slope c = let t = c .before .before .before in omega (arith, less t, given t .ns-long)
+
+slope-requires : tie.Need-slope-requires Inv-loop μ-loop
+slope-requires c κs =
+    let t = c .before .before .before in
+    (read-moments (given t) (t .before .loop .i) (less t), start t .pre .1, start t .pre .2)
+
+mul-offset : tie.Need-mul-offset Inv-loop μ-loop
+mul-offset c = search needs
+
+shared-slice-read-offset : tie.Need-shared-slice-read-offset Inv-loop μ-loop
+shared-slice-read-offset c = let t = c .before .before .before .before .before in omega (arith, less t, given t .ns-long)
+
+mul-offset-2 : tie.Need-mul-offset-2 Inv-loop μ-loop
+mul-offset-2 c = search needs
+
+shared-slice-read-offset-2 : tie.Need-shared-slice-read-offset-2 Inv-loop μ-loop
+shared-slice-read-offset-2 c = let t = c .before .before .before .before .before .before in omega (arith, less t, given t .inverses-long)
+
+offset-requires : tie.Need-offset-requires Inv-loop μ-loop
+offset-requires c κs =
+    let t = c .before .before .before .before .before .before in
+    offset-in (given t) (t .before .loop .i) (less t) (c .before .before .slope .result) (c .before .before .slope .ensures .1)
+
+add-put-line : tie.Need-add-put-line Inv-loop μ-loop
+add-put-line c = search needs
+
+add-put-line-2 : tie.Need-add-put-line-2 Inv-loop μ-loop
+add-put-line-2 c = search needs
+
+put-line-requires : tie.Need-put-line-requires Inv-loop μ-loop
+put-line-requires c κs =
+    let t = c .before .before .before .before .before .before .before .before in
+    let long = t .before .loop .inv .1 in
+    (omega (arith, less t, given t .apart, given t .room, long), omega (arith, less t, given t .room, long))
+
+add-i : tie.Need-add-i Inv-loop μ-loop
+add-i c = search needs
 
 loop-less : tie.Need-loop-less Inv-loop μ-loop
-loop-less c = omega arith
+loop-less c = omega (arith, less (c .before .before .before .before .before .before .before .before .before .before))
 
 loop-again : tie.Need-loop-again Inv-loop μ-loop
 loop-again c =
-    let f = c .before in
-    let t = f .before .before in
-    let h = t .before in
-    let a = h .before .args in
-    let i = h .loop .inv in (
-      omega arith,
-      f .fit-pixel .kept .0 ∙ i .1,
-      λ S s.
-          row-more (a .work .now) (h .loop .work) (f .fit-pixel .last .0) (a .w) (a .h) 4 2 (λ j u. fitted S (a .w) (a .h) (a .r) (a .e) j (a .y) u) (a .y) (h .loop .x)
-          (h .before .pre .1) (t .loop-test .taken) (i .2 S s) (f .fit-pixel .ensures S (imaged-still (a .work .now) (h .loop .work) (a .w) (a .h) (i .1) (kept t) S s)),
+    let p = c .before .put-line in
+    let o = c .before .before .before in
+    let s = o .before .before .before in
+    let t = s .before .before .before .before in
+    let i = t .before .loop .inv in (
+      omega (arith, less t),
+      p .kept .0 ∙ i .1,
+      rw (p .ensures)
+          (row-turn (given t) (t .before .loop .i) (less t) (start t .args .e) (t .before .loop .work) (s .slope .result) (o .offset .result) (i .1) (i .2) (s .slope .ensures .0)
+          (s .slope .ensures .1) (o .offset .ensures .0) (o .offset .ensures .1)),
     )
 
 same-length : tie.Need-same-length Inv-loop μ-loop
 same-length c = c .before .loop .inv .1
 
 returns : tie.Need-returns Inv-loop μ-loop
-returns c S s =
-    let e : c .before .loop .x ≡ c .before .before .args .w = omega arith in
-    rw e at (c .before .loop .inv .2 S s)
+returns c =
+    let e : c .before .loop .i ≡ c .before .before .before .before .args .n = omega arith in
+    rw e at (c .before .loop .inv .2)
 
 pub fit-row-spec : {M : Type 1} → statement M
 fit-row-spec =
@@ -74,8 +124,24 @@ fit-row-spec =
     Inv-loop
     μ-loop
     loop-holds
-    fit-pixel-requires
-    add-x
+    mul-u
+    shared-slice-copy-out-u
+    cast-u
+    mul-v
+    shared-slice-copy-out-v
+    cast-v
+    mul-slope
+    shared-slice-read-slope
+    slope-requires
+    mul-offset
+    shared-slice-read-offset
+    mul-offset-2
+    shared-slice-read-offset-2
+    offset-requires
+    add-put-line
+    add-put-line-2
+    put-line-requires
+    add-i
     loop-less
     loop-again
     same-length

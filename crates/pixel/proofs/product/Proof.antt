@@ -1,5 +1,4 @@
 -- `pixel::product` meets its contract. Assumes nothing.
-use Prim.Native.Nat.{_≤_}
 use native.Mathlib.Nat.{mul-le-mul}
 use native.Mathlib.Omega.{arith}
 use borrow.Author.Needs.{needs}
@@ -7,10 +6,7 @@ use Rattle.pixel.proofs.product.Statement.{statement}
 use Rattle.pixel.proofs.product.Tie as tie
 
 mul-result : tie.Need-mul-result
-mul-result c =
-    let i : c .args .i ≤ 255 = omega arith in
-    let a : c .args .a ≤ 255 = omega arith in
-    omega (arith, mul-le-mul i a)
+mul-result c = omega (arith, mul-le-mul (c .pre .0) (c .pre .1))
 
 returns : tie.Need-returns
 returns c = search needs

@@ -1,73 +1,73 @@
--- `pixel::recovered` meets its contract: each branch is a law of the recovery in naturals. Assumes nothing.
-use Prim.Native.Nat.{_≤_, _<_}
+-- `pixel::recovered` meets its contract: what each call answers, put together, is a law of the recovery. Assumes nothing.
+use mathlib.Core.Path.{_≡_, refl, ap, _∙_}
+use mathlib.Core.Bool.{cond}
+use Prim.Native.Nat.{ℕ, _+_, _-_, _*_, _/_, _≤_}
 use native.Mathlib.Omega.{arith}
 use borrow.Author.Needs.{needs}
-use Rattle.rules.proofs.Recover.{recover-up, recover-down}
+use lib.Dec.{ltb}
+use lib.IntN.{ℤ, pos, natAbs, _+ℤ_, _-ℤ_}
+use lib.Signed.{ltZ}
+use Rattle.rules.specs.Transmission.{held}
+use Rattle.pixel.proofs.Sizes.{held-le}
+use Rattle.pixel.proofs.Signs.{rd32, rd32-is, held-is}
+use Rattle.pixel.proofs.Scaled.{recovered-is}
 use Rattle.pixel.proofs.recovered.Statement.{statement}
 use Rattle.pixel.proofs.recovered.Tie as tie
 
-cast-whole : tie.Need-cast-whole
-cast-whole c = search needs
+module _ (s : tie.Start) where
+  abbrev a : ℕ
+  a = s .args .a
+
+  abbrev i : ℕ
+  i = s .args .i
+
+  abbrev far : ℕ
+  far = ((a - i + (i - a)) * s .args .scale + 4194304) / 8388608
+
+  -- before it is held
+  abbrev v : ℤ
+  v = cond (ltb i a) (pos a -ℤ pos far) (pos a +ℤ pos far)
+
+q-is : (c : tie.After-stretched) → rd32 (c .stretched .result) ≡ pos (far (c .before .before))
+q-is c =
+    let back = rd32-is (c .stretched .result) (record { sfits = c .stretched .ok }) in
+    back ∙ rw (c .before .apart .ensures) at (c .stretched .ensures .0)
+
+v-is : (c : tie.After-moved) → rd32 (c .moved .result) ≡ v (c .before .before .before)
+v-is c = rd32-is (c .moved .result) (record { sfits = c .moved .ok }) ∙ rw (q-is (c .before)) at (c .moved .ensures)
+
+result-is : (c : tie.After-highest) → rd32 (c .highest .result) ≡ pos (held 255 (v (c .before .before .before .before .before)))
+result-is c =
+    let z = v (c .before .before .before .before .before) in
+    let low = rd32-is (c .before .lowest .result) (record { sfits = c .before .lowest .ok }) ∙ rw (v-is (c .before .before)) at (c .before .lowest .ensures) in
+    let high = rw low at (c .highest .ensures) in
+    rd32-is (c .highest .result) (record { sfits = c .highest .ok }) ∙ high ∙ held-is z (ltZ z (pos 0)) _ refl refl
+
+apart-requires : tie.Need-apart-requires
+apart-requires c κs = search needs
 
 stretched-requires : tie.Need-stretched-requires
 stretched-requires c κs = search needs
 
-add-v : tie.Need-add-v
-add-v c = search needs
+moved-requires : tie.Need-moved-requires
+moved-requires c κs = rw (rd32-is (c .stretched .result) (record { sfits = c .stretched .ok })) (c .stretched .ensures .1)
 
-cast-lesser-u64 : tie.Need-cast-lesser-u64
-cast-lesser-u64 c = search needs
+lowest-requires : tie.Need-lowest-requires
+lowest-requires c κs = search needs
 
-lesser-u64-requires : tie.Need-lesser-u64-requires
-lesser-u64-requires c κs = search needs
+highest-requires : tie.Need-highest-requires
+highest-requires c κs = search needs
 
 cast-result : tie.Need-cast-result
-cast-result c = search needs
+cast-result c = rw (result-is c) (tt, record { fits = omega (arith, held-le 255 (v (c .before .before .before .before .before))) })
 
 returns : tie.Need-returns
-returns c =
-    let d = c .before .before .before .args in
-    let l : d .a ≤ d .i = omega arith in
-    omega (arith, recover-up (d .a) (d .i) (d .t) l)
-
-sub-stretched : tie.Need-sub-stretched
-sub-stretched c = search needs
-
-stretched-requires-2 : tie.Need-stretched-requires-2
-stretched-requires-2 c κs = search needs
-
-sub-result : tie.Need-sub-result
-sub-result c = search needs
-
-cast-result-2 : tie.Need-cast-result-2
-cast-result-2 c = search needs
-
-returns-2 : tie.Need-returns-2
-returns-2 c =
-    let d = c .before .before .before .args in
-    let l : d .i < d .a = omega arith in
-    omega (arith, recover-down (d .a) (d .i) (d .t) l)
-
-returns-3 : tie.Need-returns-3
-returns-3 c =
-    let d = c .before .before .before .args in
-    let l : d .i < d .a = omega arith in
-    omega (arith, recover-down (d .a) (d .i) (d .t) l)
+returns c t some few o =
+    let s = c .before .before .before .before .before in
+    let light : a s ≤ 255 = omega arith in
+    let byte : i s ≤ 255 = omega arith in
+    ap natAbs (result-is c) ∙ recovered-is (a s) (i s) t (s .args .scale) light byte some few o (ltb (i s) (a s)) refl
 
 pub recovered-spec : {M : Type 1} → statement M
 recovered-spec =
-    tie.close
-    (tie.spec
-    cast-whole
-    stretched-requires
-    add-v
-    cast-lesser-u64
-    lesser-u64-requires
-    cast-result
-    returns
-    sub-stretched
-    stretched-requires-2
-    sub-result
-    cast-result-2
-    returns-2
-    returns-3)
+    tie.close (tie.spec apart-requires stretched-requires moved-requires lowest-requires highest-requires cast-result returns)

@@ -1,11 +1,16 @@
 -- `pixel::scale` meets its contract. Assumes nothing.
-use Prim.Native.Nat.{max}
-use native.Mathlib.Nat.{div-le-self}
+use Prim.Native.Nat.{max, _/_, _≤_}
+use native.Mathlib.Nat.{mul-div-le, mul-le-mul-right}
 use native.Mathlib.Omega.{arith}
 use borrow.Author.Needs.{needs}
-use Rattle.pixel.proofs.Scales.{over}
+use Rattle.pixel.proofs.Scaled.{over}
 use Rattle.pixel.proofs.scale.Statement.{statement}
 use Rattle.pixel.proofs.scale.Tie as tie
+
+small : (c : tie.After-larger) → 83886080000 / c .larger .result ≤ 2150925128
+small c =
+    let low : 39 ≤ c .larger .result = omega (arith, c .larger .ensures) in
+    omega (arith, mul-div-le 83886080000 (c .larger .result), mul-le-mul-right (83886080000 / c .larger .result) low)
 
 larger-requires : tie.Need-larger-requires
 larger-requires c κs = search needs
@@ -16,13 +21,14 @@ cast-result c = search needs
 div-result : tie.Need-div-result
 div-result c = search needs
 
+cast-result-2 : tie.Need-cast-result-2
+cast-result-2 c = omega (arith, small c)
+
 add-result : tie.Need-add-result
-add-result c = omega (arith, div-le-self 83886080000 (c .larger .result))
+add-result c = omega (arith, small c)
 
 returns : tie.Need-returns
-returns c =
-    let o = over 10000 (max (c .before .args .t) 39) 8388608 (omega arith) in
-    rw (c .larger .ensures) (record { least = omega (arith, o .least); most = omega (arith, o .most) })
+returns c = rw (c .larger .ensures) (over 10000 (max (c .before .args .t) 39) 8388608 (omega arith), omega arith)
 
 pub scale-spec : {M : Type 1} → statement M
-scale-spec = tie.close (tie.spec larger-requires cast-result div-result add-result returns)
+scale-spec = tie.close (tie.spec larger-requires cast-result div-result cast-result-2 add-result returns)

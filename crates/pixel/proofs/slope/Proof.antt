@@ -94,7 +94,7 @@ add-floor-div : tie.Need-add-floor-div
 add-floor-div c = omega (arith, z c)
 
 floor-div-requires : tie.Need-floor-div-requires
-floor-div-requires c κs = (omega (arith, z c), rw (k-back c) (omega (arith, z c)))
+floor-div-requires c κs = omega (arith, z c)
 
 returns : tie.Need-returns
 returns c =

@@ -1,16 +1,28 @@
 -- `pixel::stretched` meets its contract. Assumes nothing.
-use Prim.Native.Nat.{_*_, _≤_}
+use mathlib.Core.Path.{_≡_}
+use Prim.Native.Nat.{ℕ, _+_, _*_, _/_, _≤_}
+use native.Mathlib.Nat.{mul-le-mul}
 use native.Mathlib.Omega.{arith}
-use borrow.Author.Needs.{needs}
-use Rattle.pixel.proofs.Scales.{stretch-is, stretch-small}
+use lib.IntN.{pos}
+use Rattle.pixel.proofs.Signs.{rd32, rd32-is, fits32}
 use Rattle.pixel.proofs.stretched.Statement.{statement}
 use Rattle.pixel.proofs.stretched.Tie as tie
 
-small : (c : tie.After-scale) → c .before .args .d * c .scale .result ≤ 549000000000
-small c = let s = c .before in stretch-small (s .args .d) (s .args .t) (c .scale .result) (s .pre .0) (s .pre .2) (c .scale .ensures)
+module _ (s : tie.Start) where
+  small : s .args .d * s .args .scale ≤ 1095216660225
+  small =
+      let d : s .args .d ≤ 255 = omega arith in
+      let scale : s .args .scale ≤ 4294967295 = omega arith in
+      omega (arith, mul-le-mul d scale)
 
-scale-requires : tie.Need-scale-requires
-scale-requires c κs = search needs
+  abbrev q : ℕ
+  q = (s .args .d * s .args .scale + 4194304) / 8388608
+
+  q-le : q ≤ 131072
+  q-le = omega (arith, small)
+
+  q-is : rd32 (pos q) ≡ pos q
+  q-is = rd32-is (pos q) (fits32 (pos q) (omega (arith, q-le)))
 
 mul-result : tie.Need-mul-result
 mul-result c = omega (arith, small c)
@@ -19,13 +31,10 @@ add-result : tie.Need-add-result
 add-result c = omega (arith, small c)
 
 cast-result : tie.Need-cast-result
-cast-result c = omega (arith, small c)
+cast-result c = fits32 (pos (q c)) (omega (arith, q-le c))
 
 returns : tie.Need-returns
-returns c =
-    let s = c .before in
-    let e = stretch-is (s .args .d) (s .args .t) (c .scale .result) (s .pre .0) (s .pre .1) (s .pre .2) (c .scale .ensures) in
-    (omega (arith, e), omega (arith, small c))
+returns c = (q-is c, rw (q-is c) (q-le c))
 
 pub stretched-spec : {M : Type 1} → statement M
-stretched-spec = tie.close (tie.spec scale-requires mul-result add-result cast-result returns)
+stretched-spec = tie.close (tie.spec mul-result add-result cast-result returns)

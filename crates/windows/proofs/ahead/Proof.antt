@@ -1,105 +1,89 @@
--- `windows::ahead` meets its contract. The invariant: the minima from the block's start stand up to i, the other places are as they were, and
--- i - first runs are joined. Assumes nothing.
+-- `windows::ahead` meets its contract. The invariant: m is the least from `first` to i, and p has such minima up to i. Assumes nothing.
 use mathlib.Core.Path.{_≡_, _∙_}
-use Prim.Native.Nat.{_+_, _-_, _*_}
+use Prim.Native.Nat.{_-_, _≤_}
 use native.Mathlib.Omega.{arith}
-use Rattle.windows.specs.Line.{Runs, Block}
-use Rattle.windows.proofs.Blocks.{AheadTo, ahead-first, ahead-more, ahead-done, same-first}
-use Rattle.windows.proofs.Runs.{sample-runs, scratch-runs, block-size}
+use borrow.Author.Needs.{needs}
+use lib.ListN.{length, length-set}
+use Rattle.windows.proofs.Lines.{AheadTo, ahead-first, ahead-more, ahead-done}
 use Rattle.windows.proofs.ahead.Statement.{statement}
 use Rattle.windows.proofs.ahead.Tie as tie
 
 abbrev Inv-loop : tie.InvT-loop
-Inv-loop work₀ base step len first last to count₀ i₀ work count i = AheadTo work₀ work base step len first last to i × (count ≡ i - first)
+Inv-loop line first last p₀ m₀ i₀ p m i = (i ≤ last) × AheadTo line p₀ p first i m
 
 abbrev μ-loop : tie.MeasureT-loop
-μ-loop work₀ base step len first last to count₀ i₀ work count i = last - i
+μ-loop line first last p₀ m₀ i₀ p m i = last - i
 
--- the runs of the first copy
-copied : (c : tie.Start Inv-loop μ-loop) → let a = c .args in Runs (a .work .now) (a .base + a .first * a .step) (a .to + a .first * a .len) (a .len)
-copied c = sample-runs _ _ _ _ _ _ _ (c .pre) (c .args .first) (omega arith) (c .pre .order) (c .args .first) (omega arith) (c .pre .order)
+-- p is as long as at entry
+size : (c : tie.At-loop Inv-loop μ-loop) → length (c .loop .p) ≡ length (c .before .before .before .before .before .args .p .now)
+size c = c .loop .inv .1 .size ∙ simp length-set
 
--- which leaves a block
-block : (c : tie.After-copy Inv-loop μ-loop) → let a = c .before .before .args in Block (c .copy .last .0) (a .base) (a .step) (a .len) (a .first) (a .last) (a .to)
-block c = block-size _ _ _ _ _ _ _ (c .before .before .pre) _ (c .copy .kept .0)
+mul-wide : tie.Need-mul-wide Inv-loop μ-loop
+mul-wide c = omega arith
 
--- the runs of a turn
-joined : (c : tie.In-loop Inv-loop μ-loop) → let a = c .before .before .before .before .before .args in let i = c .before .loop .i in
-    Runs (c .before .loop .work) (a .to + i * a .len) (a .to + (i + 1) * a .len) (a .len)
-    × Runs (c .before .loop .work) (a .base + (i + 1) * a .step) (a .to + (i + 1) * a .len) (a .len)
-joined c =
-    let l = c .before in
-    let b = block-size _ _ _ _ _ _ _ (block (l .before .before)) _ (l .loop .inv .0 .size) in
-    let i = l .loop .i in
-    (scratch-runs _ _ _ _ _ _ _ b i (i + 1) (omega arith) (omega arith) (λ z. omega arith), sample-runs _ _ _ _ _ _ _ b (i + 1) (omega arith) (omega arith) (i + 1) (omega arith) (omega arith))
+shared-slice-read-wide : tie.Need-shared-slice-read-wide Inv-loop μ-loop
+shared-slice-read-wide c = omega arith
 
-mul-copy : tie.Need-mul-copy Inv-loop μ-loop
-mul-copy c = omega (arith, copied (c .before) .inside)
+wide-requires : tie.Need-wide-requires Inv-loop μ-loop
+wide-requires c κs = search needs
 
-add-copy : tie.Need-add-copy Inv-loop μ-loop
-add-copy c = omega (arith, copied (c .before) .inside)
+cast-p : tie.Need-cast-p Inv-loop μ-loop
+cast-p c = omega arith
 
-mul-copy-2 : tie.Need-mul-copy-2 Inv-loop μ-loop
-mul-copy-2 c = omega (arith, copied (c .before) .room)
+mul-p : tie.Need-mul-p Inv-loop μ-loop
+mul-p c = omega arith
 
-add-copy-2 : tie.Need-add-copy-2 Inv-loop μ-loop
-add-copy-2 c = omega (arith, copied (c .before) .room)
-
-copy-requires : tie.Need-copy-requires Inv-loop μ-loop
-copy-requires c κs = copied (c .before)
+slice-write-p : tie.Need-slice-write-p Inv-loop μ-loop
+slice-write-p c = omega arith
 
 loop-holds : tie.Need-loop-holds Inv-loop μ-loop
-loop-holds c =
-    let s = c .before .before .before in (
-      ahead-first _ _ _ _ _ _ _ (block (c .before))
-          (same-first _ _ _ _ _ _ _ (s .pre) _ (s .args .first) (omega arith) (s .pre .order) (c .before .copy .ensures)),
-      omega arith,
-    )
+loop-holds c = (omega arith, ahead-first _ _ (c .before .before .before .before .args .first) _ (c .wide .ensures .0) (c .wide .ensures .1))
 
-add-next : tie.Need-add-next Inv-loop μ-loop
-add-next c = omega arith
+add-i : tie.Need-add-i Inv-loop μ-loop
+add-i c = omega arith
 
-mul-join : tie.Need-mul-join Inv-loop μ-loop
-mul-join c = omega (arith, joined (c .before) .0 .inside)
+mul-wide-2 : tie.Need-mul-wide-2 Inv-loop μ-loop
+mul-wide-2 c = omega arith
 
-add-join : tie.Need-add-join Inv-loop μ-loop
-add-join c = omega (arith, joined (c .before) .0 .inside)
+shared-slice-read-wide-2 : tie.Need-shared-slice-read-wide-2 Inv-loop μ-loop
+shared-slice-read-wide-2 c = omega arith
 
-mul-join-2 : tie.Need-mul-join-2 Inv-loop μ-loop
-mul-join-2 c = omega (arith, joined (c .before) .1 .inside)
+wide-requires-2 : tie.Need-wide-requires-2 Inv-loop μ-loop
+wide-requires-2 c κs = search needs
 
-add-join-2 : tie.Need-add-join-2 Inv-loop μ-loop
-add-join-2 c = omega (arith, joined (c .before) .1 .inside)
+lesser-u32-requires : tie.Need-lesser-u32-requires Inv-loop μ-loop
+lesser-u32-requires c κs = search needs
 
-mul-join-3 : tie.Need-mul-join-3 Inv-loop μ-loop
-mul-join-3 c = omega (arith, joined (c .before) .1 .room)
+cast-p-2 : tie.Need-cast-p-2 Inv-loop μ-loop
+cast-p-2 c = omega arith
 
-add-join-3 : tie.Need-add-join-3 Inv-loop μ-loop
-add-join-3 c = omega (arith, joined (c .before) .1 .room)
+mul-p-2 : tie.Need-mul-p-2 Inv-loop μ-loop
+mul-p-2 c = omega arith
 
-join-requires : tie.Need-join-requires Inv-loop μ-loop
-join-requires c κs = joined (c .before)
-
-add-count : tie.Need-add-count Inv-loop μ-loop
-add-count c = omega arith
+slice-write-p-2 : tie.Need-slice-write-p-2 Inv-loop μ-loop
+slice-write-p-2 c = omega (arith, size (c .before .before .before .before))
 
 loop-less : tie.Need-loop-less Inv-loop μ-loop
 loop-less c = omega arith
 
 loop-again : tie.Need-loop-again Inv-loop μ-loop
 loop-again c =
-    let l = c .before .before .before .before in
-    let t = c .before .before .before .loop-test .taken in
-    (ahead-more _ _ _ _ _ _ _ (block (l .before .before)) _ _ (l .loop .i) (l .loop .inv .0) t (c .before .join .kept .0) (c .before .join .ensures), omega arith)
+    let l = c .before .before .before .before in (
+      omega arith,
+      ahead-more _ _ _ _ (l .loop .i) (l .loop .m) _ _ (l .loop .inv .1) (c .before .wide2 .ensures .0) (c .lesser-u32 .ensures) (omega (arith, size l)) (simp length-set),
+    )
+
+sub-result : tie.Need-sub-result Inv-loop μ-loop
+sub-result c = omega arith
 
 same-length : tie.Need-same-length Inv-loop μ-loop
-same-length c = c .before .loop .inv .0 .size ∙ c .before .before .before .copy .kept .0
+same-length c = size (c .before)
 
 returns : tie.Need-returns Inv-loop μ-loop
 returns c =
-    let s = c .before .before .before .before .before in
-    let e : c .before .loop .i ≡ s .args .last = omega arith in
-    ahead-done _ _ _ _ _ _ _ (s .pre) _ _ (c .before .before .before .copy .ensures) (rw e at (c .before .loop .inv .0)) _ (omega arith)
+    let w = c .before .before in
+    let s = w .before .before .before .before in
+    (omega arith, ahead-done _ _ (s .args .first) _ (s .args .last) _ _ _ (omega arith) (w .wide .ensures .0) (c .before .loop .inv .1) (omega arith))
 
 pub ahead-spec : {M : Type 1} → statement M
 ahead-spec =
@@ -107,22 +91,23 @@ ahead-spec =
     (tie.spec
     Inv-loop
     μ-loop
-    mul-copy
-    add-copy
-    mul-copy-2
-    add-copy-2
-    copy-requires
+    mul-wide
+    shared-slice-read-wide
+    wide-requires
+    cast-p
+    mul-p
+    slice-write-p
     loop-holds
-    add-next
-    mul-join
-    add-join
-    mul-join-2
-    add-join-2
-    mul-join-3
-    add-join-3
-    join-requires
-    add-count
+    add-i
+    mul-wide-2
+    shared-slice-read-wide-2
+    wide-requires-2
+    lesser-u32-requires
+    cast-p-2
+    mul-p-2
+    slice-write-p-2
     loop-less
     loop-again
+    sub-result
     same-length
     returns)

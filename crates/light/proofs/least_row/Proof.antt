@@ -1,0 +1,82 @@
+-- `light::least_row` meets its contract. The loop's invariant is the contract at x pixels. Assumes nothing.
+use mathlib.Core.Path.{_≡_, refl, ap, _∙_}
+use Prim.Native.Nat.{_+_, _-_, _≤_}
+use native.Mathlib.Omega.{arith}
+use lib.ListN.{length, length-set}
+use borrow.Author.Needs.{needs}
+use Rattle.rules.specs.Light.{darkest}
+use Rattle.rules.specs.Buffers.{pixelAt}
+use Rattle.light.specs.Steps.{Starts}
+use Rattle.light.proofs.Counts.{starts-more}
+use Rattle.light.proofs.least_row.Statement.{statement}
+use Rattle.light.proofs.least_row.Tie as tie
+
+abbrev Inv-loop : tie.InvT-loop
+Inv-loop row₀ frame p n x₀ row x = (x ≤ n) × (length row ≡ length row₀) × Starts (λ i. darkest (pixelAt frame (p + i))) x row
+
+abbrev μ-loop : tie.MeasureT-loop
+μ-loop row₀ frame p n x₀ row x = n - x
+
+loop-holds : tie.Need-loop-holds Inv-loop μ-loop
+loop-holds c = (omega arith, refl, λ i h. absurd (omega arith))
+
+add-pixel-at : tie.Need-add-pixel-at Inv-loop μ-loop
+add-pixel-at c = omega arith
+
+pixel-at-requires : tie.Need-pixel-at-requires Inv-loop μ-loop
+pixel-at-requires c κs = omega arith
+
+darkest-of-requires : tie.Need-darkest-of-requires Inv-loop μ-loop
+darkest-of-requires c κs = search needs
+
+cast-row : tie.Need-cast-row Inv-loop μ-loop
+cast-row c = omega (arith, c .darkest-of .ensures)
+
+mul-row : tie.Need-mul-row Inv-loop μ-loop
+mul-row c = omega arith
+
+slice-write-row : tie.Need-slice-write-row Inv-loop μ-loop
+slice-write-row c = omega arith
+
+add-x : tie.Need-add-x Inv-loop μ-loop
+add-x c = omega arith
+
+loop-less : tie.Need-loop-less Inv-loop μ-loop
+loop-less c = omega arith
+
+loop-again : tie.Need-loop-again Inv-loop μ-loop
+loop-again c =
+    let l = c .before .before .before .loop in
+    let d = c .before .before .before .before .before .before .args in (
+      omega arith,
+      length-set (l .row) (l .x) _ ∙ l .inv .1,
+      starts-more (λ i. darkest (pixelAt (d .frame .now) (d .p + i))) (l .x) (l .row) _ (slice-write-row c)
+          (c .darkest-of .ensures ∙ ap darkest (c .before .pixel-at .ensures)) (l .inv .2),
+    )
+
+same-length : tie.Need-same-length Inv-loop μ-loop
+same-length c = c .before .loop .inv .1
+
+returns : tie.Need-returns Inv-loop μ-loop
+returns c =
+    let e : c .before .loop .x ≡ c .before .before .before .before .args .n = omega arith in
+    rw e at (c .before .loop .inv .2)
+
+pub least-row-spec : {M : Type 1} → statement M
+least-row-spec =
+    tie.close
+    (tie.spec
+    Inv-loop
+    μ-loop
+    loop-holds
+    add-pixel-at
+    pixel-at-requires
+    darkest-of-requires
+    cast-row
+    mul-row
+    slice-write-row
+    add-x
+    loop-less
+    loop-again
+    same-length
+    returns)

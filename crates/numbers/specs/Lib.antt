@@ -1,2 +1,0 @@
--- The definition that the contract of `lesser_i64` cites.
-pub mod Lower

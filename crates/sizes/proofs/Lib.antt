@@ -1,0 +1,2 @@
+-- Laws of the window sizes.
+pub mod Counts

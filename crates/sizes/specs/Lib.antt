@@ -1,0 +1,2 @@
+-- The definitions that the contracts of the window sizes cite.
+pub mod Sizes
