@@ -1,5 +1,5 @@
 /* A row of two pixels, cleared: the light is found, the frame cleared under it, one pixel replaced, the map's figure and depths read off, and the picture
- * written as a PPM file and read back. */
+ * written as a PPM file and read back. Then one pixel is hidden, and both. */
 #include <stdio.h>
 #include "haze.h"
 
@@ -12,6 +12,7 @@ int main(void)
     struct haze_lights lights = {{0, 0, 0}};
     const struct haze_rect second = {1, 0, 1, 1};
     const uint8_t new_pixel[3] = {190, 180, 170};
+    uint8_t mask[W * H] = {1, 1};
     uint8_t frame[3 * W * H] = {200, 200, 200, 100, 150, 180}, picture[3 * W * H] = {0}, answer;
     uint16_t map[W * H] = {0}, depths[W * H] = {0};
     int64_t work[HAZE_WORK(W, H)] = {0};
@@ -21,14 +22,14 @@ int main(void)
 
     settings.s = 0;
     settings.r = 1;
-    answer = haze_light(W, H, &settings, frame, sizeof frame, work, HAZE_WORK(W, H), &lights);
+    answer = haze_light(W, H, &settings, mask, sizeof mask, frame, sizeof frame, work, HAZE_WORK(W, H), &lights);
     printf("light %d: %d %d %d\n", answer, lights.light.red, lights.light.green, lights.light.blue);
 
-    answer = haze_clear(W, H, &settings, &lights, frame, sizeof frame, map, W * H, picture, sizeof picture, work, HAZE_WORK(W, H));
+    answer = haze_clear(W, H, &settings, &lights, mask, sizeof mask, frame, sizeof frame, map, W * H, picture, sizeof picture, work, HAZE_WORK(W, H));
     printf("clear %d: %d %d, second pixel %d %d %d\n", answer, map[0], map[1], picture[3], picture[4], picture[5]);
 
-    answer = haze_replace(W, H, &settings, &lights, &second, new_pixel, sizeof new_pixel, frame, sizeof frame, map, W * H, picture, sizeof picture, work,
-                          HAZE_WORK(W, H));
+    answer = haze_replace(W, H, &settings, &lights, &second, new_pixel, sizeof new_pixel, mask, sizeof mask, frame, sizeof frame, map, W * H, picture,
+                          sizeof picture, work, HAZE_WORK(W, H));
     printf("replace %d: %d %d, second pixel %d %d %d\n", answer, map[0], map[1], picture[3], picture[4], picture[5]);
 
     answer = haze_band(W, H, map, W * H, 0, 1, &mean, &least);
@@ -52,8 +53,16 @@ int main(void)
     answer = haze_add(W, H, &lights.light, picture, sizeof picture, map, W * H, frame, sizeof frame);
     printf("add %d: %d %d %d\n", answer, frame[3], frame[4], frame[5]);
 
+    mask[1] = 0;
+    answer = haze_clear(W, H, &settings, &lights, mask, sizeof mask, frame, sizeof frame, map, W * H, picture, sizeof picture, work, HAZE_WORK(W, H));
+    printf("clear with the second pixel hidden %d: %d %d, second pixel %d %d %d\n", answer, map[0], map[1], picture[3], picture[4], picture[5]);
+
+    mask[0] = 0;
+    answer = haze_light(W, H, &settings, mask, sizeof mask, frame, sizeof frame, work, HAZE_WORK(W, H), &lights);
+    printf("light with nothing seen is refused %d: %s\n", answer, haze_words(answer));
+
     settings.s = 31;
-    answer = haze_clear(W, H, &settings, &lights, frame, sizeof frame, map, W * H, picture, sizeof picture, work, HAZE_WORK(W, H));
+    answer = haze_clear(W, H, &settings, &lights, mask, sizeof mask, frame, sizeof frame, map, W * H, picture, sizeof picture, work, HAZE_WORK(W, H));
     printf("clear with s 31 is refused %d: %s\n", answer, haze_words(answer));
     return answer != HAZE_BAD_SETTING;
 }

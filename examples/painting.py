@@ -1,4 +1,4 @@
-"""What the painted frames share: dice, noise, haze laid on by distance, and the file.
+"""What the painted frames share: dice, noise, haze laid on by distance, and the files.
 
 Only sums, products, quotients and square roots of doubles are used, which IEEE 754 fixes to the bit, so every machine makes the same bytes.
 """
@@ -58,6 +58,15 @@ def write(path, size, pixels, light):
     for colour, t in pixels:
         for c, a in zip(colour, light):
             out.append(int(held(c * t + a * (1.0 - t) + dice.roll(-0.7, 0.7) + 0.5, 0.0, 255.0)))
+    put(path, out)
+
+
+def write_mask(path, size, hidden):
+    """A PGM file of a mask, from what is hidden: black there, white elsewhere."""
+    put(path, b"P5\n%d %d\n255\n" % size + bytes(0 if h else 255 for h in hidden))
+
+
+def put(path, data):
     os.makedirs(os.path.dirname(path) or ".", exist_ok=True)
     with open(path, "wb") as file:
-        file.write(out)
+        file.write(data)

@@ -2,6 +2,8 @@
 
     python3 -I examples/photo.py OUT.ppm            the hazy frame
     python3 -I examples/photo.py OUT.ppm --clean    the same field without haze
+    python3 -I examples/photo.py OUT.ppm --hood     the hazy frame with the machine's own hood in its lower rows
+    python3 -I examples/photo.py OUT.pgm --mask     the mask that hides the hood
 
 The field is painted from far to near on a canvas that keeps each pixel's distance; then haze is laid on by distance. Every machine makes the same bytes.
 """
@@ -12,7 +14,7 @@ from pathlib import Path
 
 sys.dont_write_bytecode = True
 sys.path.insert(0, str(Path(__file__).resolve().parent))
-from painting import Dice, Noise, held, let_through, shaded, write
+from painting import Dice, Noise, held, let_through, shaded, write, write_mask
 
 W, H = 480, 320
 HORIZON = 74            # the row where endless ground would end
@@ -24,6 +26,8 @@ PLANTS = 0.21           # metres from plant to plant
 NEAR, HEDGE = 2.9, 56.0  # metres: the picture's lower edge, and the end of the field
 LIGHT = (217.0, 220.0, 222.0)
 VEIL, THICKNESS = 0.68, 0.025           # transmission at the lens, and what a metre takes
+HOOD = (268.0, 26.0)    # the row where the hood begins in the middle of the picture, and how many rows lower it does at the sides
+HOOD_NEAR = 0.5         # metres: the veil lies behind it
 
 
 # ---------------------------------------------------------------------------
@@ -268,6 +272,21 @@ def paint_plants():
 
 
 # ---------------------------------------------------------------------------
+# The hood
+# ---------------------------------------------------------------------------
+
+def under_hood(x, y):
+    """How many rows a pixel lies below the hood's edge, a flat arch; above it the number is negative."""
+    return y + 0.5 - HOOD[0] - HOOD[1] * squares((x + 0.5 - W / 2) / (W / 2), 0.0)
+
+
+def hood_colour(x, y):
+    """Black paint that shines a little along the edge."""
+    shine = held(1.0 - under_hood(x, y) / 14.0) + 0.3 * noise(x / 60.0, y / 9.0)
+    return shaded((15.0, 16.0, 18.0), 0.7 + 0.6 * held(shine))
+
+
+# ---------------------------------------------------------------------------
 # The whole
 # ---------------------------------------------------------------------------
 
@@ -282,8 +301,21 @@ def paint():
     paint_plants()
 
 
-if len(sys.argv) not in (2, 3) or sys.argv[2:] not in ([], ["--clean"]):
-    sys.exit("usage: photo.py OUT.ppm [--clean]")
-clean = bool(sys.argv[2:])
-paint()
-write(sys.argv[1], (W, H), ((colour, 1.0 if clean else VEIL * let_through(z, THICKNESS)) for colour, z in zip(canvas, distance)), LIGHT)
+def seen(p, how):
+    """Colour and transmission of a pixel."""
+    if how == "--hood" and under_hood(p % W, p // W) >= 0.0:
+        return hood_colour(p % W, p // W), let_through(HOOD_NEAR, THICKNESS)
+    return canvas[p], 1.0 if how == "--clean" else VEIL * let_through(distance[p], THICKNESS)
+
+
+def main(path, how=""):
+    if how == "--mask":
+        write_mask(path, (W, H), (under_hood(p % W, p // W) >= 0.0 for p in range(W * H)))
+    else:
+        paint()
+        write(path, (W, H), (seen(p, how) for p in range(W * H)), LIGHT)
+
+
+if len(sys.argv) not in (2, 3) or sys.argv[2:] not in ([], ["--clean"], ["--hood"], ["--mask"]):
+    sys.exit("usage: photo.py OUT.ppm [--clean|--hood], photo.py OUT.pgm --mask")
+main(*sys.argv[1:])

@@ -16,7 +16,7 @@ static uint64_t w, h;
 static struct haze_settings k;
 static struct haze_rect rect = {0, 0, SIDE, SIDE};
 static struct haze_lights a, peer_a;
-static uint8_t frame[3 * MOST], picture[3 * MOST], hazy[3 * MOST], pixels[3 * SIDE * SIDE];
+static uint8_t mask[MOST], frame[3 * MOST], picture[3 * MOST], hazy[3 * MOST], pixels[3 * SIDE * SIDE];
 static uint8_t peer_frame[3 * MOST], peer_picture[3 * MOST], peer_hazy[3 * MOST];
 static uint16_t map[MOST], peer_map[MOST], depths[MOST], peer_depths_of[MOST];
 static int64_t work[WORK_MOST];
@@ -27,21 +27,22 @@ static double mean, least, peer_mean, peer_least;
 
 #define W32 (uint32_t)w, (uint32_t)h
 #define FRAME 3 * w * h
+#define MASK mask, w * h
 #define WORK work, HAZE_WORK(w, h)
 
-static int lib_light(void) { return haze_light(w, h, &k, frame, FRAME, WORK, &a); }
-static int own_light(void) { return peer_light(W32, &k, peer_frame, FRAME, &peer_a, scratch); }
+static int lib_light(void) { return haze_light(w, h, &k, MASK, frame, FRAME, WORK, &a); }
+static int own_light(void) { return peer_light(W32, &k, MASK, peer_frame, FRAME, &peer_a, scratch); }
 
-static int lib_clear(void) { return haze_clear(w, h, &k, &a, frame, FRAME, map, w * h, picture, FRAME, WORK); }
-static int own_clear(void) { return peer_clear(W32, &k, &peer_a, peer_frame, FRAME, peer_map, w * h, peer_picture, FRAME, scratch); }
+static int lib_clear(void) { return haze_clear(w, h, &k, &a, MASK, frame, FRAME, map, w * h, picture, FRAME, WORK); }
+static int own_clear(void) { return peer_clear(W32, &k, &peer_a, MASK, peer_frame, FRAME, peer_map, w * h, peer_picture, FRAME, scratch); }
 
 static int lib_replace(void)
 {
-    return haze_replace(w, h, &k, &a, &rect, pixels, sizeof pixels, frame, FRAME, map, w * h, picture, FRAME, WORK);
+    return haze_replace(w, h, &k, &a, &rect, pixels, sizeof pixels, MASK, frame, FRAME, map, w * h, picture, FRAME, WORK);
 }
 static int own_replace(void)
 {
-    return peer_replace(W32, &k, &peer_a, &rect, pixels, sizeof pixels, peer_frame, FRAME, peer_map, w * h, peer_picture, FRAME, scratch);
+    return peer_replace(W32, &k, &peer_a, &rect, pixels, sizeof pixels, MASK, peer_frame, FRAME, peer_map, w * h, peer_picture, FRAME, scratch);
 }
 
 static int lib_add(void) { return haze_add(w, h, &a.light, picture, FRAME, map, w * h, hazy, FRAME); }
@@ -59,11 +60,11 @@ __typeof__(haze_light) dry_haze_light;
 __typeof__(haze_clear) dry_haze_clear;
 __typeof__(haze_replace) dry_haze_replace;
 
-static int dry_light(void) { return dry_haze_light(w, h, &k, frame, FRAME, WORK, &a); }
-static int dry_clear(void) { return dry_haze_clear(w, h, &k, &a, frame, FRAME, map, w * h, picture, FRAME, WORK); }
+static int dry_light(void) { return dry_haze_light(w, h, &k, MASK, frame, FRAME, WORK, &a); }
+static int dry_clear(void) { return dry_haze_clear(w, h, &k, &a, MASK, frame, FRAME, map, w * h, picture, FRAME, WORK); }
 static int dry_replace(void)
 {
-    return dry_haze_replace(w, h, &k, &a, &rect, pixels, sizeof pixels, frame, FRAME, map, w * h, picture, FRAME, WORK);
+    return dry_haze_replace(w, h, &k, &a, &rect, pixels, sizeof pixels, MASK, frame, FRAME, map, w * h, picture, FRAME, WORK);
 }
 #endif
 
@@ -97,6 +98,15 @@ static void equal(void)
 
 static void must(int answer) { if (answer) stop("a call was refused"); }
 
+/* What the mask hides: nothing, the rows of the lower half, or each pixel with an even chance. */
+static enum { NOTHING, LOWER_HALF, HALF_BY_CHANCE } hidden = NOTHING;
+
+static void hide(void)
+{
+    uint64_t i;
+    for (i = 0; i < w * h; i++) mask[i] = (uint8_t)(hidden == NOTHING || (hidden == LOWER_HALF ? i < w * h / 2 : mixed(i) % 2));
+}
+
 static void prepare(uint64_t side, uint64_t s, uint64_t r)
 {
     const struct haze_settings usual = HAZE_SETTINGS_DEFAULT;
@@ -104,6 +114,7 @@ static void prepare(uint64_t side, uint64_t s, uint64_t r)
     k.s = s;
     k.r = r;
     w = h = side;
+    hide();
     drawn = 5;
     paint_as(HAZY, frame, w, h);
     paint_as(NOISE, pixels, SIDE, SIDE);
@@ -146,6 +157,10 @@ int main(void)
     line("replace 32x32, middle", lib_replace, own_replace);
     line("PPM written", lib_write, copy);
     line("PPM read", lib_read, copy);
+    for (hidden = LOWER_HALF; hidden <= HALF_BY_CHANCE; hidden++) {
+        prepare(512, 7, 30);
+        line(hidden == LOWER_HALF ? "clear, lower half" : "clear, half by chance", lib_clear, own_clear);
+    }
     return 0;
 }
 
@@ -224,6 +239,26 @@ static void calls(void)
            middle / clear, lib_best);
 }
 
+/* The rectangle of Replace lies half under the lower half. */
+static void hiding(const char *what)
+{
+    title(what);
+    prepare(512, 7, 30);
+    line("light", lib_light, own_light);
+    line("clear", lib_clear, own_clear);
+    rect.column = rect.row = 240;
+    line("replace 32x32, middle", lib_replace, own_replace);
+}
+
+static void masks(void)
+{
+    hidden = LOWER_HALF;
+    hiding("lower half hidden");
+    hidden = HALF_BY_CHANCE;
+    hiding("half hidden by chance");
+    hidden = NOTHING;
+}
+
 static void files(void)
 {
     title("512x512, beside memcpy");
@@ -252,6 +287,7 @@ int main(int count, char **words)
     int i;
     rounds = count > 1 ? (uint64_t)atoi(words[1]) : 60;
     calls();
+    masks();
     title("clear, s 7, r 30");
     for (i = 0; i < 3; i++) at("side ", sides[i], sides[i], 7, 30, lib_clear, own_clear);
     title("clear, 512x512, s 7");

@@ -1,4 +1,4 @@
-/* Random numbers and frames for the host programs. The same seed gives the same run on every machine. */
+/* Random numbers, frames and masks for the host programs. The same seed gives the same run on every machine. */
 #ifndef FRAMES_H
 #define FRAMES_H
 #include <stddef.h>
@@ -54,5 +54,30 @@ static inline void paint_as(uint64_t kind, uint8_t *frame, uint64_t w, uint64_t 
                 else v = 255 - (int64_t)(fine % 4);
                 *frame++ = byte_held(v);
             }
+}
+
+/* A mask of w by h: all seen, all hidden, stripes of rows or of columns, one to three seen pixels, a hidden border, a hood (the lower rows are hidden), or
+ * each pixel hidden or seen by chance. */
+enum { ALL_SEEN, ALL_HIDDEN, ROWS, COLUMNS, SINGLE, BORDER, HOOD, SPECKLED, MASKS };
+
+/* A byte that shows a pixel: one of four, the same for the whole mask, or any. */
+static inline uint8_t seen_byte(uint64_t which, uint64_t fine)
+{
+    static const uint8_t bytes[] = {1, 2, 128, 255};
+    return which < sizeof bytes ? bytes[which] : (uint8_t)(1 + fine % 255);
+}
+
+static inline void mask_as(uint64_t kind, uint8_t *mask, uint64_t w, uint64_t h)
+{
+    static const uint64_t shares[] = {1, 10, 50, 90, 99}; /* how many of a hundred pixels are hidden */
+    uint64_t x, y, k, seed = draw(), which = draw() % 5, wide = from_to(1, 9), gap = from_to(1, 9), hood = from_to(0, h - 1), share = shares[draw() % 5];
+    for (y = 0; y < h; y++)
+        for (x = 0; x < w; x++) {
+            uint64_t fine = mixed(seed ^ (y * 1024 + x));
+            int seen = kind == ALL_SEEN ? 1 : kind == ROWS ? y % (wide + gap) < wide : kind == COLUMNS ? x % (wide + gap) < wide
+                : kind == BORDER ? x >= gap && x + gap < w && y >= gap && y + gap < h : kind == HOOD ? y < hood : kind == SPECKLED ? fine % 100 >= share : 0;
+            mask[y * w + x] = seen ? seen_byte(which, fine / 100) : 0;
+        }
+    for (k = from_to(1, 3); kind == SINGLE && k > 0; k--) mask[draw() % (w * h)] = seen_byte(which, seed);
 }
 #endif

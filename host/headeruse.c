@@ -11,11 +11,12 @@ extern "C" {
 
 /* Every function by its address, under the type that a caller may count on. */
 struct functions {
-    uint8_t (*light)(uint64_t, uint64_t, const struct haze_settings *, const uint8_t *, size_t, int64_t *, size_t, struct haze_lights *);
-    uint8_t (*clear)(uint64_t, uint64_t, const struct haze_settings *, const struct haze_lights *, const uint8_t *, size_t, uint16_t *, size_t, uint8_t *, size_t,
-                     int64_t *, size_t);
+    uint8_t (*light)(uint64_t, uint64_t, const struct haze_settings *, const uint8_t *, size_t, const uint8_t *, size_t, int64_t *, size_t,
+                     struct haze_lights *);
+    uint8_t (*clear)(uint64_t, uint64_t, const struct haze_settings *, const struct haze_lights *, const uint8_t *, size_t, const uint8_t *, size_t, uint16_t *,
+                     size_t, uint8_t *, size_t, int64_t *, size_t);
     uint8_t (*replace)(uint64_t, uint64_t, const struct haze_settings *, const struct haze_lights *, const struct haze_rect *, const uint8_t *, size_t,
-                       uint8_t *, size_t, uint16_t *, size_t, uint8_t *, size_t, int64_t *, size_t);
+                       const uint8_t *, size_t, uint8_t *, size_t, uint16_t *, size_t, uint8_t *, size_t, int64_t *, size_t);
     uint8_t (*add)(uint64_t, uint64_t, const struct haze_rgb *, const uint8_t *, size_t, const uint16_t *, size_t, uint8_t *, size_t);
     uint8_t (*band)(uint64_t, uint64_t, const uint16_t *, size_t, uint64_t, uint64_t, double *, double *);
     uint8_t (*depths)(uint64_t, uint64_t, const uint16_t *, size_t, uint16_t *, size_t);
@@ -54,21 +55,22 @@ static int works_agree(void)
 
 static uint8_t picture_cleared(uint8_t *frame, uint8_t *picture)
 {
-    static const uint8_t pixels[3 * W * H] = {0};
+    static const uint8_t pixels[3 * W * H] = {0}, mask[W * H] = {1, 255};
     static int64_t work[HAZE_WORK(W, H)];
     struct haze_settings settings = HAZE_SETTINGS_DEFAULT;
     struct haze_rgb grey = {200, 200, 200};
     struct haze_lights lights = {{0, 0, 0}};
     struct haze_rect rect = {0, 0, W, H};
     uint16_t map[W * H] = {0, 0}, depths[W * H] = {0, 0};
-    uint8_t answer = haze_light(W, H, &settings, frame, 3 * W * H, work, HAZE_WORK(W, H), &lights);
+    uint8_t answer = haze_light(W, H, &settings, mask, W * H, frame, 3 * W * H, work, HAZE_WORK(W, H), &lights);
     if (answer == HAZE_DONE) {
         lights.light = grey;
-        answer = haze_replace(W, H, &settings, &lights, &rect, pixels, 3 * W * H, frame, 3 * W * H, map, W * H, picture, 3 * W * H, work,
+        answer = haze_replace(W, H, &settings, &lights, &rect, pixels, 3 * W * H, mask, W * H, frame, 3 * W * H, map, W * H, picture, 3 * W * H, work,
                               sizeof work / sizeof work[0]);
     }
     if (answer == HAZE_DONE) answer = haze_depths(W, H, map, W * H, depths, W * H);
     if (depths[0] > HAZE_DEEPEST) answer = HAZE_BAD_ENTRY;
+    if (answer == HAZE_NOTHING_SEEN) answer = HAZE_BAD_BUFFER;
     return answer;
 }
 

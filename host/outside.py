@@ -1,7 +1,8 @@
 """Holds reader and writer to two programs of others, Netpbm and ImageMagick.
 
-They write PPM files of pixels that they are given raw, and the library's reader must answer those pixels. The tool's frames and maps must give them, by
-their own readers, the bytes behind our header. And where the tool refuses a file and names a command that helps, that command must help.
+They write PPM files of pixels that they are given raw, and the library's reader must answer those pixels; masks that they write must hide what they should.
+The tool's frames and maps must give them, by their own readers, the bytes behind our header. And where the tool refuses a file and names a
+command that helps, that command must help.
 Where the two are missing they are installed, if apt-get can do that; if not, the test is skipped.
 """
 
@@ -179,15 +180,23 @@ def our_files():
 # The commands that the tool names where it refuses a file
 # ---------------------------------------------------------------------------
 
-def helped(data, number, *what, name="bad.ppm"):
-    """The file is refused with the number, and the named command makes of it one that is taken, OUT or OUT.ppm, which is answered."""
+def as_frame(name):
+    return [ROOT / "haze", "light", name]
+
+
+def as_mask(name):
+    return [ROOT / "haze", "light", "in.ppm", f"mask={name}"]
+
+
+def helped(data, number, *what, name="bad.ppm", taken_as=as_frame):
+    """The file is refused with the number, and the named command makes of it one that is taken, OUT, OUT.ppm or OUT.pgm, which is answered."""
     Path(name).write_bytes(data)
-    run = subprocess.run([ROOT / "haze", "light", name], capture_output=True, text=True)
+    run = subprocess.run(taken_as(name), capture_output=True, text=True)
     command = re.search(rf"refused {number}: .*; to (?:convert|scale) it: (.*)\n", run.stderr)
     check(run.returncode == 1 and command, "helped", what, run)
     made = subprocess.run(command[1], shell=True, capture_output=True, text=True)
-    out = Path("OUT.ppm" if "OUT.ppm" in command[1] else "OUT")
-    again = subprocess.run([ROOT / "haze", "light", out], capture_output=True, text=True)
+    out = Path(next(out for out in ("OUT.ppm", "OUT.pgm", "OUT") if out in command[1]))
+    again = subprocess.run(taken_as(out), capture_output=True, text=True)
     check(made.returncode == 0 and again.returncode == 0, "helped", what, command[1], made, again)
     taken = out.read_bytes()
     out.unlink()
@@ -208,6 +217,27 @@ def other_formats():
                         (11, [magick + "-colors 9 png:-"]), (11, [netpbm, "ppmtopgm -plain"]), (11, [netpbm, "ppmtopgm", "pamthreshold -simple", "pamtopnm"]),
                         (12, [netpbm, "pamdepth 15"]), (11, [magick + "-alpha set -channel A -evaluate set 50% png:-"])):
         check(helped(through(raw, *way), number, way).startswith(b"P6\n37 23\n255\n"), "helped", way)
+
+
+def masks():
+    """Black hides, by whatever program the mask was written; and of one that is refused the named command makes the same mask."""
+    size = W, H = (37, 23)
+    hidden = bytes(random.Random(3).choices((0, 255), k=W * H))
+    Path("in.ppm").write_bytes(ppm_file(size, pixels(size)))
+    Path("mask.pgm").write_bytes(b"P5\n37 23\n255\n" + hidden)
+    haze("clear", "in.ppm", "wanted.ppm", "mask=mask.pgm")
+    wanted, netpbm, magick = Path("wanted.ppm").read_bytes(), f"rawtopgm {W} {H}", f"convert -size {W}x{H} -depth 8 gray:- "
+    check(all(wanted[-3 * (W * H - p):][:3] == pixels(size)[3 * p:3 * p + 3] for p in range(W * H) if not hidden[p]), "read", "a mask hides other pixels")
+    for way in ([netpbm], [magick + "-depth 8 pgm:-"], [netpbm, "pamtopnm -plain", "pnmtopnm"], [netpbm, "pamflip -lr", "pamflip -lr"],
+                [magick + "-set comment hood -depth 8 pgm:-"]):
+        Path("mask.pgm").write_bytes(through(hidden, *way))
+        haze("clear", "in.ppm", "out.ppm", "mask=mask.pgm")
+        check(Path("out.ppm").read_bytes() == wanted, "read", way, "is another mask")
+    for number, way in ((11, [netpbm, "pnmtopng"]), (11, [magick + "png:-"]), (11, [netpbm, "pamtopnm -plain"]), (12, [netpbm, "pamdepth 65535"]),
+                        (11, [netpbm, "pamthreshold -simple", "pamtopnm"])):
+        Path("mask.pgm").write_bytes(helped(through(hidden, *way), number, way, name="bad.pgm", taken_as=as_mask))
+        haze("clear", "in.ppm", "out.ppm", "mask=mask.pgm")
+        check(Path("out.ppm").read_bytes() == wanted, "helped", way, "is another mask")
 
 
 SIZES = ((513, 512), (640, 480), (800, 600), (1280, 720), (1920, 1080), (1080, 1920), (1024, 257), (2000, 1500), (4000, 3000), (5000, 100), (100, 5000), (1025, 1),
@@ -236,6 +266,7 @@ with tempfile.TemporaryDirectory() as folder:
     refused_files()
     our_files()
     other_formats()
+    masks()
     large_sizes()
 print("outside: %d files of" % counts["read"], " and ".join("%s %s" % pair for pair in found.items()),
       "read alike, %(refused)d refused; %(written)d times ours were read alike by them; the commands that the tool names helped, in %(helped)d checks" % counts)

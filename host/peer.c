@@ -1,6 +1,9 @@
 /* See peer.h. Minimum by doubling along rows and by van Herk's blocks down columns (a whole
  * row at a time), window sums by running sums (columns a whole row at a time, then along the row), stage by
- * stage over just the part of the frame that the asked-for part of the map depends on. */
+ * stage over just the part of the frame that the asked-for part of the map depends on.
+ * The mask of that part is looked through first. Where it hides nothing, it is NULL from there on and no pixel is
+ * asked for it; else hidden samples are made such that no minimum and no sum feels them, n is a running sum too,
+ * and rows that are hidden whole are passed over. */
 #include "peer.h"
 #include <string.h>
 
@@ -53,6 +56,43 @@ static int bad_settings(const struct haze_settings *t)
 {
     return t->s > 30 || t->r > 60 || t->omega < 1 || t->omega > 10000 || t->e < 1
         || t->e > 585225 || t->t0 < 1 || t->t0 > 10000 || t->share < 1 || t->share > 1000;
+}
+
+/* ------------------------------------------------------------------ mask */
+
+#define NEVER_LEAST 65535 /* above every dark value and every ratio */
+
+/* The mask, or NULL where it hides nothing of the part. */
+static const uint8_t *hiding(const uint8_t *mask, int W, part p)
+{
+    int y;
+    for (y = p.y0; y < p.y1; y++)
+        if (memchr(mask + (size_t)y * W + p.x0, 0, (size_t)(p.x1 - p.x0))) return mask;
+    return NULL;
+}
+
+static size_t seen_of(const uint8_t *mask, size_t n)
+{
+    size_t i, seen = 0;
+    for (i = 0; i < n; i++) seen += mask[i] != 0;
+    return seen;
+}
+
+/* value in place of what is hidden, without a branch. */
+static void put_where_hidden(uint16_t *restrict row, const uint8_t *restrict mask, int n, uint16_t value)
+{
+    int i;
+    for (i = 0; i < n; i++) {
+        uint16_t keep = (uint16_t)-(mask[i] != 0);
+        row[i] = (uint16_t)((row[i] & keep) | (value & ~keep));
+    }
+}
+
+static int row_is_hidden(const uint8_t *mask, int n)
+{
+    int i = 0;
+    while (i < n && !mask[i]) i++;
+    return i == n;
 }
 
 /* ------------------------------------------------------------------ minimum */
@@ -128,47 +168,74 @@ static void part_min(uint16_t *v, uint16_t *t, int W, part p, int s)
 
 /* ------------------------------------------------------------------ light */
 
-int peer_light(uint32_t W, uint32_t H, const struct haze_settings *st,
+/* The least channel of each pixel. */
+static void least_channels(uint16_t *restrict mn, const uint8_t *restrict frame, size_t n)
+{
+    size_t i;
+    for (i = 0; i < n; i++) {
+        uint8_t r = frame[3 * i], g = frame[3 * i + 1], b = frame[3 * i + 2];
+        uint8_t x = r < g ? r : g;
+        mn[i] = x < b ? x : b;
+    }
+}
+
+/* How many pixels have each dark value. */
+static void count_darks(const uint16_t *mn, size_t n, uint32_t count[256])
+{
+    uint32_t part_count[4][256];                        /* four, so that equal neighbours don't wait */
+    size_t i;
+    int v;
+    memset(part_count, 0, sizeof part_count);
+    for (i = 0; i + 4 <= n; i += 4) {
+        part_count[0][mn[i]]++; part_count[1][mn[i + 1]]++;
+        part_count[2][mn[i + 2]]++; part_count[3][mn[i + 3]]++;
+    }
+    for (; i < n; i++) part_count[0][mn[i]]++;
+    for (v = 0; v < 256; v++)
+        count[v] = part_count[0][v] + part_count[1][v] + part_count[2][v] + part_count[3][v];
+}
+
+/* The pixel of the greatest sum among the m candidates; m is at most the number of seen pixels. A hidden pixel stands at dark
+ * value 0, where the cutoff ends at the latest; there alone the mask is asked. */
+static size_t brightest(const uint16_t *mn, const uint8_t *mask, const uint8_t *frame, size_t n, size_t m)
+{
+    uint32_t count[256];
+    size_t i, left = m, best = 0;               /* left, below: how many of the cutoff's own value are taken */
+    int cutoff = 255, best_sum = -1;
+    count_darks(mn, n, count);
+    for (; count[cutoff] < left; cutoff--) left -= count[cutoff];
+    for (i = 0; i < n; i++) {
+        int sum, d = mn[i];
+        if (d < cutoff) continue;
+        if (d == cutoff) { if (left == 0 || (mask && !mask[i])) continue; left--; }
+        sum = frame[3 * i] + frame[3 * i + 1] + frame[3 * i + 2];
+        if (sum > best_sum) { best_sum = sum; best = i; }
+    }
+    return best;
+}
+
+int peer_light(uint32_t W, uint32_t H, const struct haze_settings *st, const uint8_t *mask, size_t mask_len,
                const uint8_t *frame, size_t frame_len, struct haze_lights *lights, void *scratch)
 {
-    size_t n, i, m, left, best = 0;
-    uint32_t count[256], part_count[4][256];
-    int v, cutoff, best_sum = -1;
+    size_t n, m, seen;
     planes p;
     part all;
     if (bad_size(W, H)) return 1;
     if (bad_settings(st)) return 2;
     n = (size_t)W * H;
     if (frame_len != 3 * n) return 3;
-    p = cut(scratch, n);
-    for (i = 0; i < n; i++) {
-        uint8_t r = frame[3 * i], g = frame[3 * i + 1], b = frame[3 * i + 2];
-        uint8_t x = r < g ? r : g;
-        p.mn[i] = x < b ? x : b;
-    }
+    if (mask_len != n) return 4;
     all.x0 = all.y0 = 0; all.x1 = (int)W; all.y1 = (int)H;
+    mask = hiding(mask, (int)W, all);
+    seen = mask ? seen_of(mask, n) : n;
+    if (!seen) return 14;
+    p = cut(scratch, n);
+    least_channels(p.mn, frame, n);
+    if (mask) put_where_hidden(p.mn, mask, (int)n, NEVER_LEAST);
     part_min(p.mn, p.tmp, (int)W, all, (int)st->s);
-    memset(part_count, 0, sizeof part_count);           /* four, so that equal neighbours don't wait */
-    for (i = 0; i + 4 <= n; i += 4) {
-        part_count[0][p.mn[i]]++; part_count[1][p.mn[i + 1]]++;
-        part_count[2][p.mn[i + 2]]++; part_count[3][p.mn[i + 3]]++;
-    }
-    for (; i < n; i++) part_count[0][p.mn[i]]++;
-    for (v = 0; v < 256; v++)
-        count[v] = part_count[0][v] + part_count[1][v] + part_count[2][v] + part_count[3][v];
-    m = n * st->share / 1000;
-    if (m < 1) m = 1;
-    left = m;                                   /* how many of the cutoff's own value are taken */
-    for (v = 255; count[v] < left; v--) left -= count[v];
-    cutoff = v;
-    for (i = 0; i < n; i++) {
-        int sum, d = p.mn[i];
-        if (d < cutoff) continue;
-        if (d == cutoff) { if (left == 0) continue; left--; }
-        sum = frame[3 * i] + frame[3 * i + 1] + frame[3 * i + 2];
-        if (sum > best_sum) { best_sum = sum; best = i; }
-    }
-    frame += 3 * best;
+    if (mask) put_where_hidden(p.mn, mask, (int)n, 0);
+    m = seen * st->share / 1000;
+    frame += 3 * brightest(p.mn, mask, frame, n, m < 1 ? 1 : m);
     lights->light.red = (uint8_t)imax(frame[0], 1);
     lights->light.green = (uint8_t)imax(frame[1], 1);
     lights->light.blue = (uint8_t)imax(frame[2], 1);
@@ -214,6 +281,30 @@ RUNNING(run_u64, uint32_t, uint64_t)
 RUNNING(run_a, int32_t, int64_t)
 RUNNING(run_b, int64_t, int64_t)
 
+/* How many pixels the windows about a row have: how many of the rows that are in the sums are seen, column by column, and
+ * from that n. Where nothing is hidden, mask is NULL and the columns are not used. */
+typedef struct { const uint8_t *mask; uint32_t col[MAXSIDE]; } sizes;
+
+static void sizes_row(sizes *c, int W, int y, part in, int add)
+{
+    const uint8_t *mask = c->mask + (size_t)y * W + in.x0;
+    int i, w = in.x1 - in.x0;
+    if (add) for (i = 0; i < w; i++) c->col[i] += mask[i] != 0;
+    else     for (i = 0; i < w; i++) c->col[i] -= mask[i] != 0;
+}
+
+/* n for each column of o; 1 where it would be 0, about a hidden pixel, so that it can be divided by. */
+static void sizes_of_row(const sizes *c, uint32_t *restrict n, int rows, part o, part in, int r, int W)
+{
+    int x, w = o.x1 - o.x0;
+    if (!c->mask) {
+        for (x = o.x0; x < o.x1; x++) n[x - o.x0] = (uint32_t)(rows * (imin(W, x + r + 1) - imax(0, x - r)));
+        return;
+    }
+    run_u32(c->col, n, in.x0, o.x0, o.x1, r, W);
+    for (x = 0; x < w; x++) n[x] = n[x] ? n[x] : 1;
+}
+
 /* Column sums over the window's rows for guide, coarse value and products. */
 typedef struct { uint32_t g[MAXSIDE], t[MAXSIDE], gg[MAXSIDE], gt[MAXSIDE]; } cols4;
 
@@ -232,40 +323,71 @@ static void cols4_row(cols4 *c, const uint16_t *restrict g, const uint16_t *rest
         }
 }
 
-/* Slopes and offsets over part o; the coarse values and guides they need lie in part i. */
-static void slopes(const planes *p, int W, int H, part o, part in, int r, int64_t E)
+/* Slope and offset of each column of one row, from its window sums. */
+static void slopes_row(const cols4 *c, const uint32_t *sizes, int32_t *pa, int32_t *pb, part o, part in, int r, int W, int64_t E)
 {
-    cols4 c;
     uint32_t Sg[MAXSIDE], St[MAXSIDE];
     uint64_t Sgg[MAXSIDE], Sgt[MAXSIDE];
-    int x, y, top = imax(0, o.y0 - r), bottom = top;    /* rows top..bottom are in the column sums */
+    int64_t n = 0;
+    double inv = 0;
+    int k;
+    run_u32(c->g, Sg, in.x0, o.x0, o.x1, r, W);
+    run_u32(c->t, St, in.x0, o.x0, o.x1, r, W);
+    run_u64(c->gg, Sgg, in.x0, o.x0, o.x1, r, W);
+    run_u64(c->gt, Sgt, in.x0, o.x0, o.x1, r, W);
+    for (k = 0; k < o.x1 - o.x0; k++) {
+        int64_t g = Sg[k], t = St[k], P, Q, a, num;
+        if (sizes[k] != n) { n = sizes[k]; inv = 1.0 / (double)n; }
+        P = n * (int64_t)Sgt[k] - g * t;
+        Q = n * (int64_t)Sgg[k] - g * g + n * n * E;
+        a = floor_div(1024 * P, Q);
+        num = 1024 * t - a * g;
+        pa[k] = (int32_t)a;
+        pb[k] = (int32_t)floor_fix((int64_t)((double)num * inv), num, n);
+    }
+}
+
+/* The line of a hidden pixel is in no sum. */
+static void no_lines_where_hidden(int32_t *restrict pa, int32_t *restrict pb, const uint8_t *restrict mask, int n)
+{
+    int i;
+    for (i = 0; i < n; i++) {
+        int32_t keep = -(mask[i] != 0);
+        pa[i] &= keep;
+        pb[i] &= keep;
+    }
+}
+
+/* Slopes and offsets over part o; the coarse values and guides they need lie in part in. */
+static void slopes(const planes *p, const uint8_t *mask, int W, int H, part o, part in, int r, int64_t E)
+{
+    cols4 c;
+    sizes counts;
+    uint32_t n[MAXSIDE];
+    int y, top = imax(0, o.y0 - r), bottom = top;       /* rows top..bottom are in the column sums */
     int w = in.x1 - in.x0;
     memset(&c, 0, sizeof c);
+    memset(&counts, 0, sizeof counts);
+    counts.mask = mask;
     for (y = o.y0; y < o.y1; y++) {
         int want_top = imax(0, y - r), want_bottom = imin(H, y + r + 1);
-        int64_t rows, n = 0;
-        double inv = 0;
-        int32_t *pa = p->a + (size_t)y * W, *pb = p->b + (size_t)y * W;
-        for (; bottom < want_bottom; bottom++)
-            cols4_row(&c, p->g + (size_t)bottom * W + in.x0, p->mn + (size_t)bottom * W + in.x0, w, 1);
-        for (; top < want_top; top++)
-            cols4_row(&c, p->g + (size_t)top * W + in.x0, p->mn + (size_t)top * W + in.x0, w, 0);
-        run_u32(c.g, Sg, in.x0, o.x0, o.x1, r, W);
-        run_u32(c.t, St, in.x0, o.x0, o.x1, r, W);
-        run_u64(c.gg, Sgg, in.x0, o.x0, o.x1, r, W);
-        run_u64(c.gt, Sgt, in.x0, o.x0, o.x1, r, W);
-        rows = want_bottom - want_top;
-        for (x = o.x0; x < o.x1; x++) {
-            int k = x - o.x0;
-            int64_t g = Sg[k], t = St[k], P, Q, a, num, m = rows * (imin(W, x + r + 1) - imax(0, x - r));
-            if (m != n) { n = m; inv = 1.0 / (double)n; }
-            P = n * (int64_t)Sgt[k] - g * t;
-            Q = n * (int64_t)Sgg[k] - g * g + n * n * E;
-            a = floor_div(1024 * P, Q);
-            num = 1024 * t - a * g;
-            pa[x] = (int32_t)a;
-            pb[x] = (int32_t)floor_fix((int64_t)((double)num * inv), num, n);
+        size_t at = (size_t)y * W + o.x0;
+        if (mask && row_is_hidden(mask + at, o.x1 - o.x0)) {
+            memset(p->a + at, 0, (size_t)(o.x1 - o.x0) * sizeof *p->a);
+            memset(p->b + at, 0, (size_t)(o.x1 - o.x0) * sizeof *p->b);
+            continue;
         }
+        for (; bottom < want_bottom; bottom++) {
+            cols4_row(&c, p->g + (size_t)bottom * W + in.x0, p->mn + (size_t)bottom * W + in.x0, w, 1);
+            if (mask) sizes_row(&counts, W, bottom, in, 1);
+        }
+        for (; top < want_top; top++) {
+            cols4_row(&c, p->g + (size_t)top * W + in.x0, p->mn + (size_t)top * W + in.x0, w, 0);
+            if (mask) sizes_row(&counts, W, top, in, 0);
+        }
+        sizes_of_row(&counts, n, want_bottom - want_top, o, in, r, W);
+        slopes_row(&c, n, p->a + at, p->b + at, o, in, r, W, E);
+        if (mask) no_lines_where_hidden(p->a + at, p->b + at, mask + at, o.x1 - o.x0);
     }
 }
 
@@ -307,35 +429,57 @@ static void recover_row(const uint8_t *restrict in, uint8_t *restrict out, const
     }
 }
 
-static void refine(const planes *p, int W, int H, part o, part in, int r,
+/* Map entries of one row, from its window sums. Where sizes differ from column to column, a double's guess takes the place
+ * of the exact reciprocal. */
+static void entries_row(uint16_t *map, const int64_t *Sa, const int64_t *Sb, const uint16_t *g, const uint32_t *sizes, int w, int uneven)
+{
+    int64_t n = 0;
+    uint64_t inv = 0;
+    int k;
+    for (k = 0; k < w; k++) {
+        int64_t v = (Sa[k] * g[k] + Sb[k]) >> 10;                     /* floor; the next floor by n is exact */
+        if (!uneven && sizes[k] != n) inv = ((uint64_t)1 << 44) / sizes[k] + 1;
+        n = sizes[k];
+        v = v < 0 ? 0 : v;
+        v = v > 10000 * n ? 10000 * n : v;
+        map[k] = (uint16_t)(uneven ? (uint64_t)floor_div(v, n) : ((uint64_t)v * inv) >> 44); /* v*n is below 2^44, so exact */
+    }
+}
+
+/* Map and picture over part o; the slopes and offsets they need lie in part in. With an entry of 10000 the recovery copies. */
+static void refine(const planes *p, const uint8_t *mask, int W, int H, part o, part in, int r,
                    const uint8_t *frame, const struct haze_rgb *light, int t0, uint16_t *map, uint8_t *pic)
 {
     cols2 c;
+    sizes counts;
     int64_t Sa[MAXSIDE], Sb[MAXSIDE];
-    int x, y, top = imax(0, o.y0 - r), bottom = top, w = in.x1 - in.x0;
+    uint32_t n[MAXSIDE];
+    int y, top = imax(0, o.y0 - r), bottom = top, w = in.x1 - in.x0, wide = o.x1 - o.x0;
     memset(&c, 0, sizeof c);
+    memset(&counts, 0, sizeof counts);
+    counts.mask = mask;
     for (y = o.y0; y < o.y1; y++) {
         int want_top = imax(0, y - r), want_bottom = imin(H, y + r + 1);
-        int64_t rows, n = 0;
-        uint64_t inv = 0;
-        size_t at = (size_t)y * W;
-        for (; bottom < want_bottom; bottom++)
+        size_t at = (size_t)y * W + o.x0;
+        if (mask && row_is_hidden(mask + at, wide)) {
+            put_where_hidden(map + at, mask + at, wide, 10000);
+            memcpy(pic + 3 * at, frame + 3 * at, 3 * (size_t)wide);
+            continue;
+        }
+        for (; bottom < want_bottom; bottom++) {
             cols2_row(&c, p->a + (size_t)bottom * W + in.x0, p->b + (size_t)bottom * W + in.x0, w, 1);
-        for (; top < want_top; top++)
+            if (mask) sizes_row(&counts, W, bottom, in, 1);
+        }
+        for (; top < want_top; top++) {
             cols2_row(&c, p->a + (size_t)top * W + in.x0, p->b + (size_t)top * W + in.x0, w, 0);
+            if (mask) sizes_row(&counts, W, top, in, 0);
+        }
         run_a(c.a, Sa, in.x0, o.x0, o.x1, r, W);
         run_b(c.b, Sb, in.x0, o.x0, o.x1, r, W);
-        rows = want_bottom - want_top;
-        for (x = o.x0; x < o.x1; x++) {
-            int64_t v, m = rows * (imin(W, x + r + 1) - imax(0, x - r));
-            if (m != n) { n = m; inv = ((uint64_t)1 << 44) / (uint64_t)n + 1; }
-            v = (Sa[x - o.x0] * p->g[at + x] + Sb[x - o.x0]) >> 10;   /* floor; the next floor by n is exact */
-            v = v < 0 ? 0 : v;
-            v = v > 10000 * n ? 10000 * n : v;
-            map[at + x] = (uint16_t)(((uint64_t)v * inv) >> 44);      /* v*n is below 2^44, so exact */
-        }
-        recover_row(frame + 3 * (at + o.x0), pic + 3 * (at + o.x0), map + at + o.x0,
-                    o.x1 - o.x0, light, t0);
+        sizes_of_row(&counts, n, want_bottom - want_top, o, in, r, W);
+        entries_row(map + at, Sa, Sb, p->g + at, n, wide, mask != NULL);
+        if (mask) put_where_hidden(map + at, mask + at, wide, 10000);
+        recover_row(frame + 3 * at, pic + 3 * at, map + at, wide, light, t0);
     }
 }
 
@@ -346,7 +490,7 @@ static void ratios(uint16_t table[256], int a)
     for (i = 0; i < 256; i++) table[i] = (uint16_t)imin(10000 * i / a, 10000);
 }
 
-static void clear_part(int W, int H, const struct haze_settings *st, const uint8_t *frame,
+static void clear_part(int W, int H, const struct haze_settings *st, const uint8_t *mask, const uint8_t *frame,
                        const struct haze_rgb *light, part out, uint16_t *map, uint8_t *pic, void *scratch)
 {
     planes p = cut(scratch, (size_t)W * H);
@@ -357,7 +501,9 @@ static void clear_part(int W, int H, const struct haze_settings *st, const uint8
     ratios(table[0], light->red);
     ratios(table[1], light->green);
     ratios(table[2], light->blue);
-    for (y = ratio.y0; y < ratio.y1; y++)
+    mask = hiding(mask, W, ratio);
+    for (y = ratio.y0; y < ratio.y1; y++) {
+        size_t at = (size_t)y * W + ratio.x0;
         for (x = ratio.x0; x < ratio.x1; x++) {
             size_t k = (size_t)y * W + x;
             const uint8_t *f = frame + 3 * k;
@@ -366,17 +512,21 @@ static void clear_part(int W, int H, const struct haze_settings *st, const uint8
             p.mn[k] = v < q ? v : q;
             p.g[k] = (uint16_t)(f[0] + f[1] + f[2]);
         }
+        if (mask) put_where_hidden(p.mn + at, mask + at, ratio.x1 - ratio.x0, NEVER_LEAST);
+        if (mask) put_where_hidden(p.g + at, mask + at, ratio.x1 - ratio.x0, 0);
+    }
     part_min(p.mn, p.tmp, W, ratio, s);
     for (y = coarse.y0; y < coarse.y1; y++) {
         uint16_t *row = p.mn + (size_t)y * W;
         for (x = coarse.x0; x < coarse.x1; x++)
             row[x] = (uint16_t)(10000 - omega * row[x] / 10000);
+        if (mask) put_where_hidden(row + coarse.x0, mask + (size_t)y * W + coarse.x0, coarse.x1 - coarse.x0, 0);
     }
-    slopes(&p, W, H, slope, coarse, r, (int64_t)st->e);
-    refine(&p, W, H, out, slope, r, frame, light, (int)st->t0, map, pic);
+    slopes(&p, mask, W, H, slope, coarse, r, (int64_t)st->e);
+    refine(&p, mask, W, H, out, slope, r, frame, light, (int)st->t0, map, pic);
 }
 
-static int clear_refused(uint32_t W, uint32_t H, const struct haze_settings *st, size_t frame_len,
+static int clear_refused(uint32_t W, uint32_t H, const struct haze_settings *st, size_t mask_len, size_t frame_len,
                          const struct haze_rgb *light, size_t map_len, size_t pic_len)
 {
     size_t n;
@@ -384,37 +534,37 @@ static int clear_refused(uint32_t W, uint32_t H, const struct haze_settings *st,
     if (bad_settings(st)) return 2;
     n = (size_t)W * H;
     if (frame_len != 3 * n) return 3;
-    if (pic_len != 3 * n || map_len != n) return 4;
+    if (mask_len != n || pic_len != 3 * n || map_len != n) return 4;
     if (bad_light(light)) return 5;
     return 0;
 }
 
 int peer_clear(uint32_t W, uint32_t H, const struct haze_settings *st, const struct haze_lights *lights,
-               const uint8_t *frame, size_t frame_len,
+               const uint8_t *mask, size_t mask_len, const uint8_t *frame, size_t frame_len,
                uint16_t *map, size_t map_len, uint8_t *pic, size_t pic_len, void *scratch)
 {
     part all;
-    int no = clear_refused(W, H, st, frame_len, &lights->light, map_len, pic_len);
+    int no = clear_refused(W, H, st, mask_len, frame_len, &lights->light, map_len, pic_len);
     if (no) return no;
     all.x0 = all.y0 = 0; all.x1 = (int)W; all.y1 = (int)H;
-    clear_part((int)W, (int)H, st, frame, &lights->light, all, map, pic, scratch);
+    clear_part((int)W, (int)H, st, mask, frame, &lights->light, all, map, pic, scratch);
     return 0;
 }
 
 int peer_replace(uint32_t W, uint32_t H, const struct haze_settings *st, const struct haze_lights *lights,
                  const struct haze_rect *rect, const uint8_t *px, size_t px_len,
-                 uint8_t *frame, size_t frame_len,
+                 const uint8_t *mask, size_t mask_len, uint8_t *frame, size_t frame_len,
                  uint16_t *map, size_t map_len, uint8_t *pic, size_t pic_len, void *scratch)
 {
     uint64_t x = rect->column, y = rect->row, w = rect->width, h = rect->height, j;
     part c;
-    int no = clear_refused(W, H, st, frame_len, &lights->light, map_len, pic_len);
+    int no = clear_refused(W, H, st, mask_len, frame_len, &lights->light, map_len, pic_len);
     if (no) return no;
     if (w < 1 || h < 1 || x >= W || y >= H || w > W - x || h > H - y) return 6;
     if (px_len != 3 * w * h) return 7;
     for (j = 0; j < h; j++) memcpy(frame + 3 * ((y + j) * W + x), px + 3 * j * w, 3 * w);
     c.x0 = (int)x; c.x1 = (int)(x + w); c.y0 = (int)y; c.y1 = (int)(y + h);
-    clear_part((int)W, (int)H, st, frame, &lights->light,
+    clear_part((int)W, (int)H, st, mask, frame, &lights->light,
                grown(c, (int)(st->s + 2 * st->r), (int)W, (int)H), map, pic, scratch);
     return 0;
 }

@@ -1,5 +1,5 @@
 /* How much of the stack each call takes, measured: a stretch of the stack below the caller is painted, the call is made, and what is no longer paint is counted.
- * Ends with status 1 where a call takes more than HAZE_STACK says, or more on a large frame than on a small one. */
+ * Ends with status 1 where a call takes more than HAZE_STACK says, or more on a large frame or under a mask than on one pixel. */
 #include <stdio.h>
 #include <string.h>
 #include "haze.h"
@@ -12,17 +12,17 @@ static uint64_t w, h;
 static struct haze_settings k = HAZE_SETTINGS_DEFAULT;
 static struct haze_lights a = {{200, 210, 220}};
 static struct haze_rect rect = {0, 0, 1, 1};
-static uint8_t frame[3 * MAX_PIXELS], picture[3 * MAX_PIXELS], hazy[3 * MAX_PIXELS], pixels[3];
+static uint8_t mask[MAX_PIXELS], frame[3 * MAX_PIXELS], picture[3 * MAX_PIXELS], hazy[3 * MAX_PIXELS], pixels[3];
 static uint16_t map[MAX_PIXELS], depths[MAX_PIXELS];
 static int64_t work[8 * (MAX_PIXELS + 1024 + 256 + 1)];
 static double mean, least;
 
 static int nothing(void) { return 0; }
-static int light(void) { return haze_light(w, h, &k, frame, 3 * w * h, work, HAZE_WORK(w, h), &a); }
-static int clear(void) { return haze_clear(w, h, &k, &a, frame, 3 * w * h, map, w * h, picture, 3 * w * h, work, HAZE_WORK(w, h)); }
+static int light(void) { return haze_light(w, h, &k, mask, w * h, frame, 3 * w * h, work, HAZE_WORK(w, h), &a); }
+static int clear(void) { return haze_clear(w, h, &k, &a, mask, w * h, frame, 3 * w * h, map, w * h, picture, 3 * w * h, work, HAZE_WORK(w, h)); }
 static int replace(void)
 {
-    return haze_replace(w, h, &k, &a, &rect, pixels, sizeof pixels, frame, 3 * w * h, map, w * h, picture, 3 * w * h, work, HAZE_WORK(w, h));
+    return haze_replace(w, h, &k, &a, &rect, pixels, sizeof pixels, mask, w * h, frame, 3 * w * h, map, w * h, picture, 3 * w * h, work, HAZE_WORK(w, h));
 }
 static int add(void) { return haze_add(w, h, &a.light, frame, 3 * w * h, map, w * h, hazy, 3 * w * h); }
 static int band(void) { return haze_band(w, h, map, w * h, 0, h, &mean, &least); }
@@ -52,14 +52,22 @@ static __attribute__((noinline)) uint64_t taken(int (*call)(void))
     return reached();
 }
 
+/* With something hidden or nothing; the first pixel is seen, so that there is a light. */
+static void frame_of(uint64_t side, uint64_t kind)
+{
+    w = h = side;
+    paint_as(HAZY, frame, w, h);
+    mask_as(kind, mask, w, h);
+    mask[0] = 1;
+}
+
 static int measure(const char *name, int (*call)(void))
 {
-    static const uint64_t sides[] = {1, 17, 512};
+    static const uint64_t sides[] = {1, 17, 512, 17, 512}, kinds[] = {ALL_SEEN, ALL_SEEN, ALL_SEEN, HOOD, SPECKLED};
     uint64_t i, most = 0, first = 0;
-    for (i = 0; i < 3; i++) {
+    for (i = 0; i < 5; i++) {
         uint64_t n, none;
-        w = h = sides[i];
-        paint_as(HAZY, frame, w, h);
+        frame_of(sides[i], kinds[i]);
         none = taken(nothing);
         n = taken(call);
         n = n < none ? 0 : n - none;
@@ -78,6 +86,7 @@ int main(void)
     wrong |= measure("add", add);
     wrong |= measure("band", band);
     wrong |= measure("depths", depth);
-    printf("%s\n", wrong ? "stack: a call takes more than haze.h says, or more on a larger frame" : "stack: no call takes more than haze.h says, and none more on a larger frame");
+    printf("%s\n", wrong ? "stack: a call takes more than haze.h says, or more on a larger frame or under a mask"
+                         : "stack: no call takes more than haze.h says, and none more on a larger frame or under a mask");
     return wrong;
 }

@@ -1,5 +1,5 @@
-/* Random calls of the library, good and bad, against the peer. Every buffer is lent between guard bytes. Ends at the first difference, with what
- * differed and status 1. Usage: stress [TIMES [SEED]]; the counts of calls below are multiplied by TIMES. */
+/* Random calls of the library, good and bad, against the peer, under masks of every kind. Every buffer is lent between guard bytes. Ends at the first
+ * difference, with what differed and status 1. Usage: stress [TIMES [SEED]]; the counts of calls below are multiplied by TIMES. */
 #include <stdio.h>
 #include <stdlib.h>
 #include <string.h>
@@ -13,13 +13,14 @@
 #define WORK_MOST (8 * (MAX_PIXELS + 1024 + 256 + 1) + 16)
 
 static _Alignas(64) uint8_t frame_room[ROOM(3 * MAX_PIXELS + 8)], map_room[ROOM(2 * MAX_PIXELS + 8)], picture_room[ROOM(3 * MAX_PIXELS + 8)],
-    pixels_room[ROOM(3 * MAX_PIXELS + 8)], work_room[ROOM(8 * WORK_MOST)], light_room[ROOM(3)], mean_room[ROOM(8)], least_room[ROOM(8)];
+    mask_room[ROOM(MAX_PIXELS + 8)], pixels_room[ROOM(3 * MAX_PIXELS + 8)], work_room[ROOM(8 * WORK_MOST)], light_room[ROOM(3)],
+    mean_room[ROOM(8)], least_room[ROOM(8)];
 
 static loan frame_loan = {"frame", frame_room, 0, 1, 0, 0}, map_loan = {"map", map_room, 0, 2, 0, 0}, picture_loan = {"picture", picture_room, 0, 1, 0, 0},
-    pixels_loan = {"new pixels", pixels_room, 0, 1, 0, 0}, work_loan = {"work area", work_room, 0, 8, 0, 0}, light_loan = {"light", light_room, 0, 1, 0, 0},
-    mean_loan = {"mean", mean_room, 0, 8, 0, 0}, least_loan = {"least", least_room, 0, 8, 0, 0};
+    mask_loan = {"mask", mask_room, 0, 1, 0, 0}, pixels_loan = {"new pixels", pixels_room, 0, 1, 0, 0}, work_loan = {"work area", work_room, 0, 8, 0, 0},
+    light_loan = {"light", light_room, 0, 1, 0, 0}, mean_loan = {"mean", mean_room, 0, 8, 0, 0}, least_loan = {"least", least_room, 0, 8, 0, 0};
 
-static loan *const loans[] = {&frame_loan, &map_loan, &picture_loan, &pixels_loan, &work_loan, &light_loan, &mean_loan, &least_loan};
+static loan *const loans[] = {&frame_loan, &map_loan, &picture_loan, &mask_loan, &pixels_loan, &work_loan, &light_loan, &mean_loan, &least_loan};
 #define LOANS (sizeof loans / sizeof *loans)
 
 static void fill(uint8_t *at, size_t n, uint64_t seed)
@@ -121,7 +122,7 @@ static void wiped(void)
     as_it_was(&work_loan, 8 * n);
 }
 
-/* ---- the refusals, straight from document 01's table: numbers as wide as they come, and no product of numbers that are not judged */
+/* ---- the refusals, straight from document 01's table and the request of the mask: numbers as wide as they come, and no product of numbers that are not judged */
 
 static int bad_size(void) { return now.w < 1 || now.w > 1024 || now.h < 1 || now.h > 1024 || now.w * now.h > MAX_PIXELS; }
 
@@ -148,17 +149,32 @@ static int bad_entries(void)
     return 0;
 }
 
-static int refused_light(void)
+static int nothing_seen(void)
+{
+    const uint8_t *mask = lent(&mask_loan);
+    size_t i = 0;
+    while (i < mask_loan.bytes && !mask[i]) i++;
+    return i == mask_loan.bytes;
+}
+
+/* What Light, Clear and Replace check alike, up to 4. */
+static int refused_frame(void)
 {
     if (bad_size()) return 1;
     if (bad_settings()) return 2;
     if (frame_loan.bytes != 3 * now.w * now.h) return 3;
-    return entries(&work_loan) < HAZE_WORK(now.w, now.h) ? 4 : 0;
+    return mask_loan.bytes != now.w * now.h || entries(&work_loan) < HAZE_WORK(now.w, now.h) ? 4 : 0;
+}
+
+static int refused_light(void)
+{
+    int n = refused_frame();
+    return n ? n : nothing_seen() ? 14 : 0;
 }
 
 static int refused_clear(void)
 {
-    int n = refused_light();
+    int n = refused_frame();
     if (n && n != 4) return n;
     if (n || picture_loan.bytes != 3 * now.w * now.h || entries(&map_loan) != now.w * now.h) return 4;
     return bad_light() ? 5 : 0;
@@ -191,7 +207,7 @@ static int refused_band(void)
 
 /* ---- one call each: the library, then its answer and all that it was lent against refusals and peer */
 
-static uint8_t frame_copy[3 * MAX_PIXELS + 8], picture_copy[3 * MAX_PIXELS + 8], pixels_copy[3 * MAX_PIXELS + 8];
+static uint8_t mask_copy[MAX_PIXELS + 8], frame_copy[3 * MAX_PIXELS + 8], picture_copy[3 * MAX_PIXELS + 8], pixels_copy[3 * MAX_PIXELS + 8];
 static uint16_t map_copy[MAX_PIXELS + 8];
 static _Alignas(64) uint8_t scratch[16 * MAX_PIXELS];
 
@@ -201,6 +217,7 @@ static _Alignas(64) uint8_t scratch[16 * MAX_PIXELS];
 
 static void kept_copies(void)
 {
+    memcpy(mask_copy, lent(&mask_loan), mask_loan.bytes);
     memcpy(frame_copy, lent(&frame_loan), frame_loan.bytes);
     memcpy(map_copy, lent(&map_loan), map_loan.bytes);
     memcpy(picture_copy, lent(&picture_loan), picture_loan.bytes);
@@ -211,17 +228,18 @@ static uint8_t light(void)
     struct haze_lights want, *place = lend(&light_loan, sizeof *place);
     uint8_t got;
     begin("light");
-    memcpy(frame_copy, lent(&frame_loan), frame_loan.bytes);
-    got = haze_light(SIZE, &now.k, WHOLE(frame_loan), WHOLE(work_loan), place);
+    kept_copies();
+    got = haze_light(SIZE, &now.k, WHOLE(mask_loan), WHOLE(frame_loan), WHOLE(work_loan), place);
     same_number(got, (uint64_t)refused_light());
     if (got) {
         as_it_was(&light_loan, 0);
         as_it_was(&work_loan, 0);
     } else {
-        same_number(0, (uint64_t)peer_light(SIZE32, &now.k, frame_copy, frame_loan.bytes, &want, scratch));
+        same_number(0, (uint64_t)peer_light(SIZE32, &now.k, mask_copy, mask_loan.bytes, frame_copy, frame_loan.bytes, &want, scratch));
         same_bytes(&light_loan, (uint8_t *)&want);
         wiped();
     }
+    same_bytes(&mask_loan, mask_copy);
     same_bytes(&frame_loan, frame_copy);
     guards();
     return got;
@@ -232,14 +250,15 @@ static uint8_t clear(void)
     uint8_t got;
     begin("clear");
     kept_copies();
-    got = haze_clear(SIZE, &now.k, &now.a, WHOLE(frame_loan), WHOLE(map_loan), WHOLE(picture_loan), WHOLE(work_loan));
+    got = haze_clear(SIZE, &now.k, &now.a, WHOLE(mask_loan), WHOLE(frame_loan), WHOLE(map_loan), WHOLE(picture_loan), WHOLE(work_loan));
     same_number(got, (uint64_t)refused_clear());
     if (got) as_it_was(&work_loan, 0);
     else {
-        same_number(0, (uint64_t)peer_clear(SIZE32, &now.k, &now.a, frame_copy, frame_loan.bytes, map_copy, entries(&map_loan), picture_copy,
-                                            picture_loan.bytes, scratch));
+        same_number(0, (uint64_t)peer_clear(SIZE32, &now.k, &now.a, mask_copy, mask_loan.bytes, frame_copy, frame_loan.bytes, map_copy, entries(&map_loan),
+                                            picture_copy, picture_loan.bytes, scratch));
         wiped();
     }
+    same_bytes(&mask_loan, mask_copy);
     same_bytes(&frame_loan, frame_copy);
     same_bytes(&map_loan, (uint8_t *)map_copy);
     same_bytes(&picture_loan, picture_copy);
@@ -253,15 +272,17 @@ static uint8_t replace(void)
     begin("replace");
     kept_copies();
     memcpy(pixels_copy, lent(&pixels_loan), pixels_loan.bytes);
-    got = haze_replace(SIZE, &now.k, &now.a, &now.rect, WHOLE(pixels_loan), WHOLE(frame_loan), WHOLE(map_loan), WHOLE(picture_loan), WHOLE(work_loan));
+    got = haze_replace(SIZE, &now.k, &now.a, &now.rect, WHOLE(pixels_loan), WHOLE(mask_loan), WHOLE(frame_loan), WHOLE(map_loan), WHOLE(picture_loan),
+                       WHOLE(work_loan));
     same_number(got, (uint64_t)refused_replace());
     if (got) as_it_was(&work_loan, 0);
     else {
-        same_number(0, (uint64_t)peer_replace(SIZE32, &now.k, &now.a, &now.rect, pixels_copy, pixels_loan.bytes, frame_copy, frame_loan.bytes, map_copy,
-                                              entries(&map_loan), picture_copy, picture_loan.bytes, scratch));
+        same_number(0, (uint64_t)peer_replace(SIZE32, &now.k, &now.a, &now.rect, pixels_copy, pixels_loan.bytes, mask_copy, mask_loan.bytes, frame_copy,
+                                              frame_loan.bytes, map_copy, entries(&map_loan), picture_copy, picture_loan.bytes, scratch));
         wiped();
     }
     same_bytes(&pixels_loan, pixels_copy);
+    same_bytes(&mask_loan, mask_copy);
     same_bytes(&frame_loan, frame_copy);
     same_bytes(&map_loan, (uint8_t *)map_copy);
     same_bytes(&picture_loan, picture_copy);
@@ -363,9 +384,35 @@ static void good_band(void)
     now.to = from_to(now.from + 1, now.h);
 }
 
+/* Of every kind, all seen three times in ten. */
+static void lend_mask(void)
+{
+    uint64_t kind = one_in(5) ? ALL_SEEN : draw() % MASKS;
+    mask_as(kind, lend(&mask_loan, now.w * now.h), now.w, now.h);
+}
+
+/* The first row of those at the bottom that are hidden whole, or h. */
+static uint64_t hood_row(void)
+{
+    const uint8_t *mask = lent(&mask_loan);
+    uint64_t i = now.w * now.h;
+    while (i > 0 && !mask[i - 1]) i--;
+    return (i + now.w - 1) / now.w;
+}
+
+/* Now and then the rectangle lies under the hood whole. */
+static void rect_under_hood(void)
+{
+    uint64_t row = hood_row();
+    if (row == now.h || one_in(2)) return;
+    now.rect.row = from_to(row, now.h - 1);
+    now.rect.height = from_to(1, now.h - now.rect.row);
+}
+
 static void lend_rect(void)
 {
     good_rect();
+    rect_under_hood();
     paint(lend(&pixels_loan, 3 * now.rect.width * now.rect.height), now.rect.width, now.rect.height);
 }
 
@@ -381,6 +428,7 @@ static void good(int how)
     good_light();
     good_band();
     paint(lend(&frame_loan, 3 * now.w * now.h), now.w, now.h);
+    lend_mask();
     lend_rect();
     map = lend(&map_loan, now.w * now.h);
     for (i = 0; i < now.w * now.h; i++) map[i] = (uint16_t)(map[i] % 10001);
@@ -410,7 +458,7 @@ static size_t about(size_t n) { return n && one_in(4) ? 0 : n && one_in(2) ? n -
 
 static void spoil(void)
 {
-    switch (draw() % 24) {
+    switch (draw() % 26) {
     case 0: now.w = other(now.w); break;
     case 1: now.h = other(now.h); break;
     case 2: now.w = now.h = 4294967296u; break;
@@ -433,12 +481,15 @@ static void spoil(void)
     case 19: now.rect.row = one_in(2) ? now.h : other(now.rect.row); break;
     case 20: now.from = one_in(2) ? now.to : other(now.from); break;
     case 21: now.to = one_in(2) ? now.h + 1 : other(now.to); break;
+    case 22: lend(&mask_loan, about(entries(&mask_loan))); break;
+    case 23: memset(lent(&mask_loan), 0, mask_loan.bytes); break;
     default:
         if (map_loan.bytes) ((uint16_t *)lent(&map_loan))[draw() % entries(&map_loan)] = one_in(2) ? 10001 : 65535;
     }
 }
 
-static uint64_t refusals[9];
+#define ANSWERS 15
+static uint64_t refusals[ANSWERS];
 
 static void bad(int how)
 {
@@ -454,7 +505,7 @@ static void bad(int how)
     }
 }
 
-/* ---- a clear, then replacements, good and bad; then a fresh clear gives the same map and picture */
+/* ---- a clear, then replacements, good and bad, under one mask; then a fresh clear gives the same map and picture */
 
 static uint8_t run_picture[3 * MAX_PIXELS];
 static uint16_t run_map[MAX_PIXELS];
@@ -495,6 +546,7 @@ static void every_pair(int how)
     now.k.s = now.k.r = 0;
     now.k.omega = 10000;
     frame = lend(&frame_loan, 3 * 256 * 256);
+    mask_as(one_in(2) ? ALL_SEEN : SPECKLED, lend(&mask_loan, 256 * 256), 256, 256);
     for (y = 0; y < 256; y++)
         for (x = 0; x < 256; x++) {
             uint8_t *pixel = frame + 3 * (256 * y + x);
@@ -518,6 +570,7 @@ static void defaults(uint64_t w, uint64_t h)
     now.w = w;
     now.h = h;
     paint(lend(&frame_loan, 3 * w * h), w, h);
+    mask_as(ALL_SEEN, lend(&mask_loan, w * h), w, h);
     lend(&map_loan, w * h);
     lend(&picture_loan, 3 * w * h);
     lend(&work_loan, HAZE_WORK(w, h));
@@ -551,6 +604,32 @@ static void figures(void)
     same_number(light(), 2);
 }
 
+/* ---- the mask's refusals, one by one: a length that is wrong is 4 in each of the three; with nothing seen Light is 14, after 4, and the others are taken */
+
+static void mask_figures(void)
+{
+    static const size_t lengths[] = {0, 255, 257};
+    int k;
+    for (k = 0; k < 3; k++) {
+        defaults(16, 16);
+        rect_at(0, 0, 16, 16);
+        lend(&mask_loan, lengths[k]);
+        memset(lent(&mask_loan), k % 2, mask_loan.bytes);
+        same_number(light(), 4);
+        same_number(clear(), 4);
+        same_number(replace(), 4);
+    }
+    defaults(16, 16);
+    rect_at(0, 0, 16, 16);
+    mask_as(ALL_HIDDEN, lend(&mask_loan, 256), 16, 16);
+    same_number(light(), 14);
+    same_number(clear(), 0);
+    lend(&work_loan, HAZE_WORK(16, 16));
+    same_number(replace(), 0);
+    lend(&work_loan, HAZE_WORK(16, 16) - 1);
+    same_number(light(), 4);
+}
+
 /* ---- groups */
 
 static void group(const char *name, void (*one)(int), int small, int thin, int middle, int large)
@@ -564,7 +643,7 @@ static void group(const char *name, void (*one)(int), int small, int thin, int m
     printf("%-8s %7llu calls agree\n", name, (unsigned long long)(calls - before));
 }
 
-static void lights(int how) { good(how); same_number(light(), 0); }
+static void lights(int how) { good(how); same_number(light(), nothing_seen() ? 14 : 0); }
 static void clears(int how) { good_to_write(how); same_number(clear(), 0); }
 static void replaces(int how) { good_to_write(how); same_number(replace(), 0); }
 static void adds(int how) { good(how); same_number(add(), 0); }
@@ -576,6 +655,7 @@ int main(int count, char **words)
     seed = count > 2 ? (uint64_t)atoi(words[2]) : 1;
     drawn = mixed(seed);
     figures();
+    mask_figures();
     printf("%-8s %7llu calls agree\n", "figures", (unsigned long long)calls);
     group("light", lights, 300 * t, 20 * t, 10 * t, 4 * t);
     group("clear", clears, 300 * t, 20 * t, 10 * t, 4 * t);
@@ -586,7 +666,7 @@ int main(int count, char **words)
     group("runs", run, 100 * t, 10 * t, 6 * t, 2 * t);
     group("bad", bad, 4000 * t, 40 * t, 20 * t, 8 * t);
     printf("answers ");
-    for (k = 0; k < 9; k++) printf(" %d:%llu", k, (unsigned long long)refusals[k]);
+    for (k = 0; k < ANSWERS; k++) if (refusals[k]) printf(" %d:%llu", k, (unsigned long long)refusals[k]);
     printf("\nstress: %llu calls of seed %llu agree with the peer\n", (unsigned long long)calls, (unsigned long long)seed);
     return 0;
 }

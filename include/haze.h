@@ -3,6 +3,9 @@
  *
  * A frame is w columns by h rows, row after row from the top, each pixel red, green and blue, one byte each: 3*w*h bytes.
  * A map has one entry a pixel, in ten-thousandths: 10000 is transmission 1.
+ * A mask has one byte a pixel, w*h bytes, row after row from the top: 0 hides the pixel, any other byte shows it. A hidden pixel enters nothing: no window, no
+ * sum, no count, and it never gives the light. Its own map entry is 10000, and its colour in the picture is the frame's. Under a mask that shows every pixel
+ * nothing is hidden. The mask is lent for reading; through a run of haze_clear and haze_replace it stays the same, as size and settings do.
  * The work area is lent by the caller: HAZE_WORK(w, h) entries or more. Nothing is allocated and nothing is kept between two calls.
  *
  * Every function is proved to end, on every input, with the answer and the buffers that are said here. It returns 0, or the first number
@@ -22,7 +25,7 @@
 #define HAZE_H
 
 /* The version of tool, library and header; while its first number is 0, a change of the second may change the C interface. */
-#define HAZE_VERSION "0.1.0"
+#define HAZE_VERSION "0.2.0"
 
 #include <stddef.h>
 #include <stdint.h>
@@ -47,7 +50,7 @@ enum haze_count { HAZE_COUNT_MOST = ~static_cast<size_t>(0) };
 #endif
 #endif
 
-/* No call takes more of the stack than so many bytes, whatever the frame: haze_light 150 KB, haze_clear and haze_replace 180 KB, haze_depths 24 KB, the others
+/* No call takes more of the stack than so many bytes, whatever the frame: haze_light 150 KB, haze_clear and haze_replace 190 KB, haze_depths 24 KB, the others
  * less than 1 KB. */
 #define HAZE_STACK 200000
 
@@ -56,14 +59,15 @@ enum haze_answer {
     HAZE_BAD_SIZE = 1,     /* w or h is not 1 to 1024, or w*h is above 262144 */
     HAZE_BAD_SETTING = 2,  /* a setting is outside its range */
     HAZE_BAD_FRAME = 3,    /* the frame that is read, or replaced in, is not 3*w*h bytes */
-    HAZE_BAD_BUFFER = 4,   /* the picture or the hazy frame is not 3*w*h bytes, a map or the depths not w*h entries, or the work area is too small */
+    HAZE_BAD_BUFFER = 4,   /* the picture or the hazy frame is not 3*w*h bytes, a mask, a map or the depths not w*h entries, or the work area is too small */
     HAZE_BAD_LIGHT = 5,    /* a channel of the light is 0 */
     HAZE_BAD_PLACE = 6,    /* the rectangle or the band is empty or reaches outside the frame */
     HAZE_BAD_PIXELS = 7,   /* the new pixels are not 3*width*height bytes */
     HAZE_BAD_ENTRY = 8,    /* an entry of a map that is read is above 10000, anywhere in it */
     HAZE_BAD_HEADER = 11,  /* the file has no good header (9 and 10 are numbers of a program's text) */
     HAZE_BAD_MAXIMUM = 12, /* the maximum is not 255 */
-    HAZE_BAD_LENGTH = 13   /* the pixels are short or bytes are left over, a second picture among them */
+    HAZE_BAD_LENGTH = 13,  /* the pixels are short or bytes are left over, a second picture among them */
+    HAZE_NOTHING_SEEN = 14 /* no pixel of the mask is seen, so none can give the light */
 };
 
 /* A function that a caller may leave unused. C89 has no word for it, but a compiler may. */
@@ -83,7 +87,7 @@ HAZE_INLINE const char *haze_words(uint8_t number)
     case HAZE_BAD_SIZE: return "width or height is not 1 to 1024, or there are more than 262144 pixels";
     case HAZE_BAD_SETTING: return "a setting is outside its range";
     case HAZE_BAD_FRAME: return "the frame is not 3*w*h bytes";
-    case HAZE_BAD_BUFFER: return "a buffer to write to, or a map, is not of its length, or the work area is too small";
+    case HAZE_BAD_BUFFER: return "a buffer to write to, a map or a mask is not of its length, or the work area is too small";
     case HAZE_BAD_LIGHT: return "a channel of the light is 0";
     case HAZE_BAD_PLACE: return "the rectangle or the band is empty or reaches outside the frame";
     case HAZE_BAD_PIXELS: return "the new pixels are not 3*width*height bytes";
@@ -91,6 +95,7 @@ HAZE_INLINE const char *haze_words(uint8_t number)
     case HAZE_BAD_HEADER: return "the header is bad";
     case HAZE_BAD_MAXIMUM: return "the maximum is not 255";
     case HAZE_BAD_LENGTH: return "the pixels are short or bytes are left over";
+    case HAZE_NOTHING_SEEN: return "no pixel of the mask is seen";
     default: return "no number that these functions return";
     }
 }
@@ -133,22 +138,24 @@ HAZE_ARRAY(lights, 3, uint8_t);
 HAZE_ARRAY(rect, 4, uint64_t);
 #undef HAZE_ARRAY
 
-/* Light: finds the ambient light of a frame. Checks 1, 2, 3, 4. The light's channels, each at least 1, go to lights->light. */
-uint8_t haze_light(uint64_t w, uint64_t h, const struct haze_settings *settings, const uint8_t *frame, size_t frame_len,
-                   int64_t *work, size_t work_len, struct haze_lights *lights);
+/* Light: finds the ambient light of a frame, among the pixels that the mask shows. Checks 1, 2, 3, 4 (of the mask's length too), 14. The light's channels,
+ * each at least 1, go to lights->light. */
+uint8_t haze_light(uint64_t w, uint64_t h, const struct haze_settings *settings, const uint8_t *mask, size_t mask_len,
+                   const uint8_t *frame, size_t frame_len, int64_t *work, size_t work_len, struct haze_lights *lights);
 
-/* Clear: the transmission map and the cleared picture of a frame under a light. Checks 1 to 5. */
-uint8_t haze_clear(uint64_t w, uint64_t h, const struct haze_settings *settings, const struct haze_lights *lights,
+/* Clear: the transmission map and the cleared picture of a frame under a light and a mask. Checks 1 to 5 (4 of the mask's length too). A mask that shows
+ * no pixel is taken: the map is then 10000 everywhere, and the picture a copy of the frame. */
+uint8_t haze_clear(uint64_t w, uint64_t h, const struct haze_settings *settings, const struct haze_lights *lights, const uint8_t *mask, size_t mask_len,
                    const uint8_t *frame, size_t frame_len, uint16_t *map, size_t map_len, uint8_t *picture, size_t picture_len,
                    int64_t *work, size_t work_len);
 
-/* Replace: the new pixels, row after row, go into the frame at the rectangle. Map entries and picture pixels at most s + 2r rows and columns from it become
- * those that haze_clear gives for the new frame; all others stay. Checks 1 to 7.
- * After an accepted haze_clear and any calls of haze_replace, accepted and refused, with the same size, settings and light, map and picture are those of a
- * haze_clear of the frame as it then is. */
+/* Replace: the new pixels, row after row, go into the frame at the rectangle, at hidden places too. Map entries and picture pixels at most s + 2r rows and
+ * columns from it become those that haze_clear gives for the new frame; all others stay, hidden ones too. Checks 1 to 7 (4 of the mask's length too).
+ * After an accepted haze_clear and any calls of haze_replace, accepted and refused, with the same size, settings, light and mask, map and picture are those of
+ * a haze_clear of the frame as it then is. */
 uint8_t haze_replace(uint64_t w, uint64_t h, const struct haze_settings *settings, const struct haze_lights *lights, const struct haze_rect *rect,
-                     const uint8_t *pixels, size_t pixels_len, uint8_t *frame, size_t frame_len, uint16_t *map, size_t map_len,
-                     uint8_t *picture, size_t picture_len, int64_t *work, size_t work_len);
+                     const uint8_t *pixels, size_t pixels_len, const uint8_t *mask, size_t mask_len, uint8_t *frame, size_t frame_len,
+                     uint16_t *map, size_t map_len, uint8_t *picture, size_t picture_len, int64_t *work, size_t work_len);
 
 /* Haze: the hazy frame that a clean one gives under a light at the transmissions of a map. Checks 1, 3, 4, 5, 8. */
 uint8_t haze_add(uint64_t w, uint64_t h, const struct haze_rgb *light, const uint8_t *clean, size_t clean_len,

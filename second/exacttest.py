@@ -21,12 +21,13 @@ HALF = Fraction(1, 2)
 # The paper
 # ---------------------------------------------------------------------------
 
-def around(size, q, p):
-    """The places of the window of radius q about the place p."""
+def around(size, mask, q, p):
+    """The seen places of the window of radius q about the place p."""
     W, H = size
     y, x = divmod(p, W)
-    return [v * W + u for v in range(max(0, y - q), min(H, y + q + 1))
-            for u in range(max(0, x - q), min(W, x + q + 1))]
+    window = [v * W + u for v in range(max(0, y - q), min(H, y + q + 1))
+              for u in range(max(0, x - q), min(W, x + q + 1))]
+    return [o for o in window if mask[o] > 0]
 
 
 def mean(values):
@@ -34,10 +35,10 @@ def mean(values):
     return Fraction(sum(values), len(values))
 
 
-def coarse(size, s, omega, light, frame, p):
+def coarse(size, s, omega, light, mask, frame, p):
     """Equation 14; a ratio is at most 1."""
     least = min(min(Fraction(frame[3 * o + c], light[c]), Fraction(1))
-                for o in around(size, s, p) for c in range(3))
+                for o in around(size, mask, s, p) for c in range(3))
     return 10000 * (1 - Fraction(omega, 10000) * least)
 
 
@@ -49,12 +50,12 @@ def line(E, I, t):
     return a, mean_t - a * mu
 
 
-def filtered(size, r, E, I, t):
-    """Equation 19, at each place."""
-    windows = [around(size, r, k) for k in range(len(I))]
-    lines = [line(E, [I[i] for i in window], [t[i] for i in window]) for window in windows]
-    return [mean(lines[k][0] for k in windows[i]) * I[i] + mean(lines[k][1] for k in windows[i])
-            for i in range(len(I))]
+def filtered(size, r, E, mask, I, t):
+    """Equation 19, under each seen place."""
+    windows = {k: around(size, mask, r, k) for k in range(len(I)) if mask[k] > 0}
+    lines = {k: line(E, [I[i] for i in window], [t[i] for i in window]) for k, window in windows.items()}
+    return {i: mean(lines[k][0] for k in window) * I[i] + mean(lines[k][1] for k in window)
+            for i, window in windows.items()}
 
 
 def recovered(I, A, t):
@@ -75,17 +76,17 @@ def held(value, most):
 # The checks
 # ---------------------------------------------------------------------------
 
-def errors(size, settings, light, frame):
-    """How much too high each coarse value, each entry and each byte is."""
+def errors(size, settings, light, mask, frame):
+    """How much too high each coarse value, each entry and each byte of a seen pixel is."""
     s, r, omega, E, t0, _ = settings
-    whole = rules.coarse_values(size, settings, light, frame)
-    map, picture = rules.clear_by_rules(size, settings, light, frame)
+    whole = rules.coarse_values(size, settings, light, mask, frame)
+    map, picture = rules.clear_by_rules(size, settings, light, mask, frame)
     guide = [sum(frame[3 * p:3 * p + 3]) for p in range(len(map))]
-    exact = filtered(size, r, E, guide, whole)
-    return ([whole[p] - coarse(size, s, omega, light, frame, p) for p in range(len(map))],
-            [map[p] - held(exact[p], 10000) for p in range(len(map))],
-            [picture[q] - held(recovered(frame[q], light[q % 3], max(map[q // 3], t0)), 255)
-             for q in range(len(picture))])
+    exact = filtered(size, r, E, mask, guide, whole)
+    return ([whole[p] - coarse(size, s, omega, light, mask, frame, p) for p in exact],
+            [map[p] - held(exact[p], 10000) for p in exact],
+            [picture[q] - held(recovered(frame[q], light[q % 3], max(map[p], t0)), 255)
+             for p in exact for q in range(3 * p, 3 * p + 3)])
 
 
 def group_bounds(same):
@@ -97,8 +98,10 @@ def group_bounds(same):
         settings = (chance.randrange(3), chance.randrange(4), chance.randrange(1, 10001),
                     chance.choice((1, 59, 585225)), chance.randrange(1, 10001), 1)
         light = tuple(chance.choice((1, 255, chance.randrange(1, 256))) for _ in range(3))
-        coarse_off, entries_off, bytes_off = errors(size, settings, light, frame)
-        what = "size %s, settings %s, light %s, frame %s: " % (size, settings, light, frame)
+        # Every third frame has hidden pixels, and the first pixel seen.
+        mask = [1] + [chance.randrange(2) if turn % 3 == 2 else 1 for _ in range(size[0] * size[1] - 1)]
+        coarse_off, entries_off, bytes_off = errors(size, settings, light, mask, frame)
+        what = "size %s, settings %s, light %s, mask %s, frame %s: " % (size, settings, light, mask, frame)
         over = 1 + Fraction(settings[2], 10000)
         same(what + "coarse values", all(0 <= off < over for off in coarse_off), True)
         same(what + "entries", all(-ENTRY_UNDER < off < ENTRY_OVER for off in entries_off), True)
@@ -118,13 +121,15 @@ def group_gain(same):
         guide = [chance.choice((0, 30, 765)) for _ in range(count)]
         one = [chance.randrange(10001) for _ in range(count)]
         other = [t - Fraction(chance.randrange(2000), 1000) for t in one]
-        apart = [abs(a - b) for a, b in zip(filtered(size, r, E, guide, one), filtered(size, r, E, guide, other))]
+        mask = rules.all_seen(size)
+        filtered_one, filtered_other = filtered(size, r, E, mask, guide, one), filtered(size, r, E, mask, guide, other)
+        apart = [abs(filtered_one[p] - filtered_other[p]) for p in range(count)]
         what = "size %s, r %d, E %d, guides %s: " % (size, r, E, guide)
         same(what + "2 apart", all(off <= 2 * (2 * r + 2) for off in apart), True)
     # One white pixel among 1860 of 0 and 1860 of 10, all in one window.
     pixels = [255] + [0] * 1860 + [10] * 1860
     whole = {i: rules.coarse_transmission(9733, rules.ratio(i, 188)) for i in (255, 0, 10)}
-    exact = {i: coarse((1, 1), 0, 9733, (188,) * 3, [i] * 3, 0) for i in (255, 0, 10)}
+    exact = {i: coarse((1, 1), 0, 9733, (188,) * 3, [1], [i] * 3, 0) for i in (255, 0, 10)}
     same("less than 2 too high", all(0 <= whole[i] - exact[i] < 2 for i in whole), True)
     a, b = line(59, [3 * i for i in pixels], [whole[i] - exact[i] for i in pixels])
     same("22.7 too high", Fraction(2269, 100) < a * 765 + b < Fraction(227, 10), True)
@@ -134,15 +139,15 @@ def group_near(same):
     for first, rest, low, high in ((255, 0, -ENTRY_UNDER, Fraction(-1721, 1000)),
                                    (0, 255, Fraction(721, 1000), ENTRY_OVER)):
         frame = [first] * 3 + [rest] * 105
-        _, entries_off, _ = errors((6, 6), (0, 5, 9326, 59, 1000, 1), (200,) * 3, frame)
+        _, entries_off, _ = errors((6, 6), (0, 5, 9326, 59, 1000, 1), (200,) * 3, [1] * 36, frame)
         same("one %d among %d" % (first, rest), low < entries_off[0] < high, True)
-    coarse_off, _, _ = errors((1, 1), (0, 30, 9189, 59, 1000, 1), (247,) * 3, [212] * 3)
+    coarse_off, _, _ = errors((1, 1), (0, 30, 9189, 59, 1000, 1), (247,) * 3, [1], [212] * 3)
     same("212 under 247", Fraction(1914, 1000) < coarse_off[0] < Fraction(19189, 10000), True)
     same("cleared half", rules.cleared_channel(2, 1, 4000) - recovered(2, 1, 4000), HALF)
     same("hazed half", rules.haze((1, 1), (1, 1, 1), [2, 2, 2], [5000], 3)[1][0] - hazed(2, 1, 5000), HALF)
     size, frame = (2, 1), [200, 200, 200, 100, 150, 180]
-    whole = rules.coarse_values(size, (0, 30, 9500, 59, 1000, 1), (200,) * 3, frame)
-    same("P3", filtered(size, 30, 59, [600, 430], whole)[0], Fraction(3782125, 7284))
+    whole = rules.coarse_values(size, (0, 30, 9500, 59, 1000, 1), (200,) * 3, [1, 1], frame)
+    same("P3", filtered(size, 30, 59, [1, 1], [600, 430], whole)[0], Fraction(3782125, 7284))
 
 
 GROUPS = (

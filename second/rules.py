@@ -3,7 +3,8 @@
 This file holds the five operations Light, Clear, Replace, Haze and Band
 figure, with their refusals.  It follows document 01 heading by heading, with
 the paper's words as names and its step numbers in the comments.  The recovery
-rounds as request Two of document 02 says.
+rounds as request Two of document 02 says, and the mask is that of its request
+Three.
 
 What every operation returns is a pair (number, values):
     accepted   (0, values)
@@ -21,6 +22,7 @@ What is given:
     settings   (s, r, omega, E, t0, share)
     light      (R, G, B), each a byte
     rect       (column, row, width, height)
+    mask       list of bytes, one for each pixel, 0 for hidden, any other for seen
     frame, clean, picture, new    lists of bytes, R, G, B for each pixel
     map        list of 16-bit entries, one for each pixel
     ..._len    the length of a buffer that is lent to be written
@@ -29,14 +31,15 @@ are not negative.
 
 All arithmetic is on whole numbers of any length, so nothing can overflow.
 Only the Band figure has floats.  Every sum and every minimum is a direct one
-over the window, cut off at the frame's edge.
+over the seen pixels of the window, cut off at the frame's edge.  A list with
+one value for each pixel has None where the pixel is hidden, up to the map.
 
 The last part holds a plain path: Light and Clear once more, pixel by pixel,
 on exact fractions.  It is slow and shares no function with the first path.
 """
 
 from fractions import Fraction
-from math import ceil, floor
+from math import ceil, floor, inf
 
 
 # ---------------------------------------------------------------------------
@@ -101,6 +104,12 @@ def map_is_not_whole(size, length):
     return length != W * H
 
 
+def mask_is_not_whole(size, length):
+    """4: not W*H bytes."""
+    W, H = size
+    return length != W * H
+
+
 def work_is_short(size, length):
     """4: fewer than 8*(W+1)*(H+1) entries.  More are allowed."""
     return length < work_needed(size)
@@ -137,14 +146,43 @@ def entry_is_above(map):
     return any(entry > LARGEST_ENTRY for entry in map)
 
 
+def nothing_is_seen(mask):
+    """14: no pixel of the mask is seen."""
+    return not any(mask)
+
+
 def lowest_that_applies(faults):
     """The lowest number whose fault is there, 0 if none is."""
     return min((number for number, there in faults.items() if there), default=0)
 
 
 # ---------------------------------------------------------------------------
+# Masks
+# ---------------------------------------------------------------------------
+
+def all_seen(size):
+    """A mask that hides nothing."""
+    W, H = size
+    return [1] * (W * H)
+
+
+def seen_only(mask, plane):
+    """The values of the seen pixels, None for the hidden ones."""
+    return [value if byte != 0 else None for byte, value in zip(mask, plane)]
+
+
+def where_seen(rule, *planes):
+    """What a rule gives at each seen pixel, None for the hidden ones."""
+    return [None if None in values else rule(*values) for values in zip(*planes)]
+
+
+# ---------------------------------------------------------------------------
 # Windows
 # ---------------------------------------------------------------------------
+
+# What a hidden pixel counts as in a window: what changes no sum and no minimum.
+LEFT_OUT = {sum: 0, min: inf}
+
 
 def pieces(line, q, combine):
     """For each place of a line, its piece of radius q, combined.
@@ -155,22 +193,21 @@ def pieces(line, q, combine):
 
 
 def over_windows(size, plane, q, combine):
-    """For each pixel, the window of radius q, combined (sum or min).
+    """For each seen pixel, the seen pixels of the window of radius q, combined (sum or min).
 
     Each row piece is combined directly, then each column of row pieces.
     """
     W, H = size
-    rows = [pieces(plane[y * W:(y + 1) * W], q, combine) for y in range(H)]
+    counted = [LEFT_OUT[combine] if value is None else value for value in plane]
+    rows = [pieces(counted[y * W:(y + 1) * W], q, combine) for y in range(H)]
     columns = [pieces(column, q, combine) for column in zip(*rows)]
-    return [value for row in zip(*columns) for value in row]
+    combined = [value for row in zip(*columns) for value in row]
+    return where_seen(lambda own, value: value, plane, combined)
 
 
-def window_sizes(size, q):
-    """For each pixel, the number n of pixels its window really has."""
-    W, H = size
-    return [rows * columns
-            for rows in pieces([1] * H, q, len)
-            for columns in pieces([1] * W, q, len)]
+def window_sizes(size, q, plane):
+    """For each seen pixel, the number n of seen pixels that its window really has."""
+    return over_windows(size, where_seen(lambda value: 1, plane), q, sum)
 
 
 def pixels(frame):
@@ -182,21 +219,21 @@ def pixels(frame):
 # From frame to light
 # ---------------------------------------------------------------------------
 
-def dark_values(size, s, frame):
+def dark_values(size, s, mask, frame):
     # Step 1.  The least byte of all channels in the window of radius s.
     least_bytes = [min(pixel) for pixel in pixels(frame)]
-    return over_windows(size, least_bytes, s, min)
+    return over_windows(size, seen_only(mask, least_bytes), s, min)
 
 
-def candidate_count(size, share):
-    # Step 2, first half.
-    W, H = size
-    return max(1, W * H * share // 1000)
+def candidate_count(seen, share):
+    # Step 2, first half, of the number of seen pixels.
+    return max(1, seen * share // 1000)
 
 
 def candidates(dark, m):
     # Step 2, second half.  Greater dark value first, then lower position.
-    ranked = sorted(range(len(dark)), key=lambda position: (-dark[position], position))
+    seen = [position for position, value in enumerate(dark) if value is not None]
+    ranked = sorted(seen, key=lambda position: (-dark[position], position))
     return ranked[:m]
 
 
@@ -207,26 +244,28 @@ def brightest(frame, chosen):
     return colours[best]
 
 
-def light_by_rules(size, settings, frame):
+def light_by_rules(size, settings, mask, frame):
     """The light of a frame that is not refused."""
     s, r, omega, E, t0, share = settings
-    dark = dark_values(size, s, frame)
-    chosen = candidates(dark, candidate_count(size, share))
+    dark = dark_values(size, s, mask, frame)
+    seen = len(mask) - mask.count(0)
+    chosen = candidates(dark, candidate_count(seen, share))
     # Step 3, last sentence.  A channel of 0 becomes 1.
     return tuple(max(1, channel) for channel in brightest(frame, chosen))
 
 
-def light(size, settings, frame, work_len):
+def light(size, settings, mask, frame, work_len):
     """Light: finds the ambient light of a frame."""
     number = lowest_that_applies({
         1: size_is_outside(size),
         2: setting_is_outside(settings),
         3: frame_is_not_whole(size, len(frame)),
-        4: work_is_short(size, work_len),
+        4: mask_is_not_whole(size, len(mask)) or work_is_short(size, work_len),
+        14: nothing_is_seen(mask),
     })
     if number:
         return number, None
-    return 0, light_by_rules(size, settings, frame)
+    return 0, light_by_rules(size, settings, mask, frame)
 
 
 # ---------------------------------------------------------------------------
@@ -238,10 +277,10 @@ def ratio(I, A):
     return min(10000, 10000 * I // A)
 
 
-def least_ratios(size, s, light, frame):
+def least_ratios(size, s, light, mask, frame):
     # Step 1, second sentence.  The values d.
     least = [min(ratio(I, A) for I, A in zip(pixel, light)) for pixel in pixels(frame)]
-    return over_windows(size, least, s, min)
+    return over_windows(size, seen_only(mask, least), s, min)
 
 
 def coarse_transmission(omega, d):
@@ -249,9 +288,9 @@ def coarse_transmission(omega, d):
     return 10000 - omega * d // 10000
 
 
-def guides(frame):
+def guides(mask, frame):
     # Step 3.  R+G+B.
-    return [sum(pixel) for pixel in pixels(frame)]
+    return seen_only(mask, [sum(pixel) for pixel in pixels(frame)])
 
 
 def slope(n, Sg, St, Sgg, Sgt, E):
@@ -268,24 +307,23 @@ def offset(n, Sg, St, a):
 
 def slopes_and_offsets(size, r, E, guide, coarse):
     # Step 4.  The sums over the window of radius r.
-    n = window_sizes(size, r)
+    n = window_sizes(size, r, guide)
     Sg = over_windows(size, guide, r, sum)
     St = over_windows(size, coarse, r, sum)
-    Sgg = over_windows(size, [g * g for g in guide], r, sum)
-    Sgt = over_windows(size, [g * t for g, t in zip(guide, coarse)], r, sum)
+    Sgg = over_windows(size, where_seen(lambda g: g * g, guide), r, sum)
+    Sgt = over_windows(size, where_seen(lambda g, t: g * t, guide, coarse), r, sum)
     # Step 5.
-    a = [slope(*sums, E) for sums in zip(n, Sg, St, Sgg, Sgt)]
-    b = [offset(*sums) for sums in zip(n, Sg, St, a)]
+    a = where_seen(lambda *sums: slope(*sums, E), n, Sg, St, Sgg, Sgt)
+    b = where_seen(offset, n, Sg, St, a)
     return a, b
 
 
 def refined_before_holding(size, r, guide, a, b):
     # Step 6 without its last words.
-    n = window_sizes(size, r)
+    n = window_sizes(size, r, guide)
     sum_a = over_windows(size, a, r, sum)
     sum_b = over_windows(size, b, r, sum)
-    return [(A * g + B) // (1024 * count)
-            for A, g, B, count in zip(sum_a, guide, sum_b, n)]
+    return where_seen(lambda A, g, B, count: (A * g + B) // (1024 * count), sum_a, guide, sum_b, n)
 
 
 def held(value, least, greatest):
@@ -293,20 +331,21 @@ def held(value, least, greatest):
     return max(least, min(greatest, value))
 
 
-def coarse_values(size, settings, light, frame):
+def coarse_values(size, settings, light, mask, frame):
     # Steps 1 and 2.
     s, r, omega, E, t0, share = settings
-    return [coarse_transmission(omega, d) for d in least_ratios(size, s, light, frame)]
+    return where_seen(lambda d: coarse_transmission(omega, d),
+                      least_ratios(size, s, light, mask, frame))
 
 
-def map_by_rules(size, settings, light, frame):
+def map_by_rules(size, settings, light, mask, frame):
     """The transmission map of a frame that is not refused."""
     s, r, omega, E, t0, share = settings
-    coarse = coarse_values(size, settings, light, frame)
-    guide = guides(frame)
+    coarse = coarse_values(size, settings, light, mask, frame)
+    guide = guides(mask, frame)
     a, b = slopes_and_offsets(size, r, E, guide, coarse)
-    # Step 6, last words.
-    return [held(value, 0, 10000)
+    # Step 6, last words.  A hidden pixel's entry is 10,000.
+    return [LARGEST_ENTRY if value is None else held(value, 0, LARGEST_ENTRY)
             for value in refined_before_holding(size, r, guide, a, b)]
 
 
@@ -328,34 +367,39 @@ def cleared_channel(I, A, T):
     return held(A + nearest_away((I - A) * 10000, T), 0, 255)
 
 
-def picture_by_rules(light, t0, frame, map):
-    """The cleared frame."""
-    return [cleared_channel(I, A, max(entry, t0))
-            for pixel, entry in zip(pixels(frame), map)
-            for I, A in zip(pixel, light)]
+def picture_by_rules(light, t0, mask, frame, map):
+    """The cleared frame.  A hidden pixel's colour is copied."""
+    picture = []
+    for byte, pixel, entry in zip(mask, pixels(frame), map):
+        if byte == 0:
+            picture.extend(pixel)
+        else:
+            picture.extend(cleared_channel(I, A, max(entry, t0)) for I, A in zip(pixel, light))
+    return picture
 
 
-def clear_by_rules(size, settings, light, frame):
+def clear_by_rules(size, settings, light, mask, frame):
     """Map and picture of a frame that is not refused."""
     s, r, omega, E, t0, share = settings
-    map = map_by_rules(size, settings, light, frame)
-    return map, picture_by_rules(light, t0, frame, map)
+    map = map_by_rules(size, settings, light, mask, frame)
+    return map, picture_by_rules(light, t0, mask, frame, map)
 
 
-def clear(size, settings, light, frame, map_len, picture_len, work_len):
-    """Clear: frame, light and settings in; map and cleared frame out."""
+def clear(size, settings, light, mask, frame, map_len, picture_len, work_len):
+    """Clear: frame, its mask, light and settings in; map and cleared frame out."""
     number = lowest_that_applies({
         1: size_is_outside(size),
         2: setting_is_outside(settings),
         3: frame_is_not_whole(size, len(frame)),
-        4: (frame_is_not_whole(size, picture_len)
+        4: (mask_is_not_whole(size, len(mask))
+            or frame_is_not_whole(size, picture_len)
             or map_is_not_whole(size, map_len)
             or work_is_short(size, work_len)),
         5: channel_is_0(light),
     })
     if number:
         return number, None
-    return 0, clear_by_rules(size, settings, light, frame)
+    return 0, clear_by_rules(size, settings, light, mask, frame)
 
 
 def hazed_channel(J, A, t):
@@ -399,13 +443,14 @@ def is_reached(rect, reach, x, y):
             and row - reach <= y <= row + height - 1 + reach)
 
 
-def replace(size, settings, light, rect, new, frame, map, picture, work_len):
+def replace(size, settings, light, rect, new, mask, frame, map, picture, work_len):
     """Replace: new pixels into a frame, map and cleared frame brought up to date."""
     number = lowest_that_applies({
         1: size_is_outside(size),
         2: setting_is_outside(settings),
         3: frame_is_not_whole(size, len(frame)),
-        4: (frame_is_not_whole(size, len(picture))
+        4: (mask_is_not_whole(size, len(mask))
+            or frame_is_not_whole(size, len(picture))
             or map_is_not_whole(size, len(map))
             or work_is_short(size, work_len)),
         5: channel_is_0(light),
@@ -416,10 +461,10 @@ def replace(size, settings, light, rect, new, frame, map, picture, work_len):
         return number, None
     W, H = size
     s, r, omega, E, t0, share = settings
-    # The new pixels go in, the others stay.
+    # The new pixels go in, at hidden places too; the others stay.
     new_frame = with_new_pixels(size, rect, new, frame)
     # What Clear would give for the whole new frame.
-    clear_map, clear_picture = clear_by_rules(size, settings, light, new_frame)
+    clear_map, clear_picture = clear_by_rules(size, settings, light, mask, new_frame)
     # Within s+2r the values become those, all others stay.
     new_map, new_picture = list(map), list(picture)
     for p in range(W * H):
@@ -454,30 +499,32 @@ def band(size, map, start, end):
 # It is for small frames.  floor and ceil of a Fraction are exact.
 # ---------------------------------------------------------------------------
 
-def plain_window(size, position, q):
-    """Every position of the frame at most q rows and q columns away."""
+def plain_window(size, mask, position, q):
+    """Every seen position of the frame at most q rows and q columns away."""
     W, H = size
     return [other for other in range(W * H)
-            if abs(other // W - position // W) <= q
+            if mask[other]
+            and abs(other // W - position // W) <= q
             and abs(other % W - position % W) <= q]
 
 
-def plain_light(size, settings, frame):
-    """Steps 1 to 3 of "From frame to light"."""
+def plain_light(size, settings, mask, frame):
+    """Steps 1 to 3 of "From frame to light".  At least one pixel is seen."""
     W, H = size
     s, r, omega, E, t0, share = settings
+    seen = [p for p in range(W * H) if mask[p]]
     # Step 1.
-    dark = []
-    for p in range(W * H):
-        dark.append(min(frame[3 * k + c] for k in plain_window(size, p, s) for c in (0, 1, 2)))
+    dark = {}
+    for p in seen:
+        window = plain_window(size, mask, p, s)
+        dark[p] = min(frame[3 * k + c] for k in window for c in (0, 1, 2))
     # Step 2.  A pixel is a candidate where fewer than m are ranked before it.
-    m = floor(Fraction(W * H * share, 1000))
+    m = floor(Fraction(len(seen) * share, 1000))
     if m < 1:
         m = 1
     chosen = []
-    for p in range(W * H):
-        before = [k for k in range(W * H)
-                  if dark[k] > dark[p] or (dark[k] == dark[p] and k < p)]
+    for p in seen:
+        before = [k for k in seen if dark[k] > dark[p] or (dark[k] == dark[p] and k < p)]
         if len(before) < m:
             chosen.append(p)
     # Step 3.  Positions come in order, so only a greater sum takes over.
@@ -488,25 +535,26 @@ def plain_light(size, settings, frame):
     return tuple(1 if byte == 0 else byte for byte in frame[3 * best:3 * best + 3])
 
 
-def plain_slopes_and_offsets(size, settings, light, frame):
-    """Steps 1 to 5 of "From light to transmission"."""
+def plain_slopes_and_offsets(size, settings, light, mask, frame):
+    """Steps 1 to 5 of "From light to transmission", under the positions of the seen pixels."""
     W, H = size
     s, r, omega, E, t0, share = settings
-    guide, coarse, slopes, offsets = [], [], [], []
-    for p in range(W * H):
+    guide, coarse, slopes, offsets = {}, {}, {}, {}
+    seen = [p for p in range(W * H) if mask[p]]
+    for p in seen:
         # Step 1.
         d = 10000
-        for k in plain_window(size, p, s):
+        for k in plain_window(size, mask, p, s):
             for c in (0, 1, 2):
                 d = min(d, floor(Fraction(10000 * frame[3 * k + c], light[c])))
         # Step 2.
-        coarse.append(10000 - floor(Fraction(omega * d, 10000)))
+        coarse[p] = 10000 - floor(Fraction(omega * d, 10000))
         # Step 3.
-        guide.append(frame[3 * p] + frame[3 * p + 1] + frame[3 * p + 2])
-    for p in range(W * H):
+        guide[p] = frame[3 * p] + frame[3 * p + 1] + frame[3 * p + 2]
+    for p in seen:
         # Step 4.
         n = Sg = St = Sgg = Sgt = 0
-        for k in plain_window(size, p, r):
+        for k in plain_window(size, mask, p, r):
             n += 1
             Sg += guide[k]
             St += coarse[k]
@@ -515,9 +563,8 @@ def plain_slopes_and_offsets(size, settings, light, frame):
         P = n * Sgt - Sg * St
         Q = n * Sgg - Sg ** 2 + n ** 2 * E
         # Step 5.
-        a = floor(Fraction(1024 * P, Q))
-        slopes.append(a)
-        offsets.append(floor(Fraction(1024 * St - a * Sg, n)))
+        slopes[p] = floor(Fraction(1024 * P, Q))
+        offsets[p] = floor(Fraction(1024 * St - slopes[p] * Sg, n))
     return guide, slopes, offsets
 
 
@@ -531,16 +578,17 @@ def plain_nearest(x):
     return max(below, above, key=abs)
 
 
-def plain_clear(size, settings, light, frame):
+def plain_clear(size, settings, light, mask, frame):
     """Step 6, and Clear of "From transmission to picture, and back"."""
     W, H = size
     s, r, omega, E, t0, share = settings
-    guide, slopes, offsets = plain_slopes_and_offsets(size, settings, light, frame)
-    map, picture = [], []
-    for p in range(W * H):
+    guide, slopes, offsets = plain_slopes_and_offsets(size, settings, light, mask, frame)
+    # What hidden pixels have: 10,000 and their colour.
+    map, picture = [10000] * (W * H), list(frame)
+    for p in guide:
         # Step 6.
         n = total = 0
-        for k in plain_window(size, p, r):
+        for k in plain_window(size, mask, p, r):
             n += 1
             total += slopes[k] * guide[p] + offsets[k]
         t = floor(Fraction(total, 1024 * n))
@@ -548,7 +596,7 @@ def plain_clear(size, settings, light, frame):
             t = 0
         if t > 10000:
             t = 10000
-        map.append(t)
+        map[p] = t
         # Clear.
         T = t if t > t0 else t0
         for c in (0, 1, 2):
@@ -558,5 +606,5 @@ def plain_clear(size, settings, light, frame):
                 value = 0
             if value > 255:
                 value = 255
-            picture.append(value)
+            picture[3 * p + c] = value
     return map, picture

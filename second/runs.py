@@ -15,12 +15,15 @@ A command is a line of decimal numbers:
     1 light, 2 clear, 3 replace, 4 haze, 5 band figure:
         W H, s r omega E t0 share, light R G B, rectangle x y w h (band: from,
         to, 0, 0), then how many entries are lent of frame, new pixels, map,
-        picture and work area, and which entry of map and picture is the first
+        picture and work area, which entry of map and picture is the first, and
+        how many bytes are lent of the mask
     6 fill:
         which buffer, first entry, how many, seed, low, noise, slow, fast, spots
-The answer to a call is one line: the answer itself, then for each of the five
-buffers its length, of a buffer of at most 12 entries the entries, and a digest
-of all entries.  A fill answers nothing.
+    7 fill the mask:
+        how many, width, left, right, top, bottom, across, down, seed, keep, byte
+The answer to a call is one line: the answer itself, then for mask, frame, new
+pixels, map, picture and work area its length, of a buffer of at most 12 entries
+the entries, and a digest of all entries.  A fill answers nothing.
 """
 
 import itertools
@@ -38,13 +41,13 @@ import rules
 
 WIDEST = 2 ** 64 - 1
 
-LIGHT, CLEAR, REPLACE, HAZE, BAND, FILL = range(1, 7)
-FRAME, NEW, MAP, PICTURE, WORK = BUFFERS = range(5)
+LIGHT, CLEAR, REPLACE, HAZE, BAND, FILL, SHOW = range(1, 8)
+FRAME, NEW, MAP, PICTURE, WORK, MASK = range(6)
 
 # The most that is lent: a frame of 130 by 130 with its work area, and one entry more.
 MOST_SIDE = 130
 PIXELS = MOST_SIDE * MOST_SIDE
-MOST_LENT = (3 * PIXELS + 1, 3 * PIXELS + 1, PIXELS + 1, 3 * PIXELS + 1, 8 * (MOST_SIDE + 1) ** 2 + 1)
+MOST_LENT = (3 * PIXELS + 1, 3 * PIXELS + 1, PIXELS + 1, 3 * PIXELS + 1, 8 * (MOST_SIDE + 1) ** 2 + 1, PIXELS + 1)
 # The program's buffers: map and picture have room for two, one behind the other.
 ROOM = [count * (2 if which in (MAP, PICTURE) else 1) for which, count in enumerate(MOST_LENT)]
 MOST_INPUT = 524288
@@ -58,12 +61,18 @@ MOST_INPUT = 524288
 UNLIKE_ZERO = (-2 ** 63, 2 ** 63 - 1, -1, 1)
 
 
+def draws(count, seed):
+    """A number below 65,536 for each entry."""
+    state = seed
+    for _ in range(count):
+        state = (state * 1664525 + 1013904223) % 2 ** 32
+        yield state // 65536
+
+
 def pattern(count, seed, low, noise, slow, fast, spots):
     """The entries of a filled part, before they are fitted to the buffer."""
-    values, state = [], seed
-    for i in range(count):
-        state = (state * 1664525 + 1013904223) % 2 ** 32
-        draw = state // 65536
+    values = []
+    for i, draw in enumerate(draws(count, seed)):
         if spots and draw // 64 % spots == 0:
             values.append(255 - draw % 64)
             continue
@@ -85,6 +94,18 @@ def fitted(which, values):
     if which == MAP:
         return values
     return [value % 256 for value in values]
+
+
+# What the seen pixels of a mask are filled with where no byte is named.
+SEEN_BYTES = (1, 2, 128, 255)
+
+
+def shown(count, width, left, right, top, bottom, across, down, seed, keep, byte):
+    """The bytes of a filled mask."""
+    columns, rows = range(left, right, across), range(top, bottom, down)
+    return [(byte or SEEN_BYTES[draw // 16 % 4])
+            if i % width in columns and i // width in rows and draw % 16 < keep else 0
+            for i, draw in enumerate(draws(count, seed))]
 
 
 # ---------------------------------------------------------------------------
@@ -132,7 +153,7 @@ class Call:
         self.settings = settings
         self.light = light
         self.rect = rect or ((0, H, 0, 0) if number == BAND else (0, 0, W, H))
-        self.lent = [0, 0, 0, 0, 0]
+        self.lent = [0, 0, 0, 0, 0, 0]
         if number != BAND:
             self.lent[FRAME] = 3 * W * H
         if number != LIGHT:
@@ -141,11 +162,12 @@ class Call:
             self.lent[PICTURE] = 3 * W * H
         if number not in (HAZE, BAND):
             self.lent[WORK] = rules.work_needed(size)
+            self.lent[MASK] = W * H
         if number == REPLACE:
             self.lent[NEW] = 3 * self.rect[2] * self.rect[3]
         # The buffers end somewhere.
         self.lent = [min(count, most) for count, most in zip(self.lent, MOST_LENT)]
-        self.first = [0, 0, 0, 0, 0]
+        self.first = [0, 0, 0, 0, 0, 0]
 
     def but(self, **changes):
         """The same call with some of its parts changed."""
@@ -165,8 +187,8 @@ class Call:
         return other
 
     def line(self):
-        return (self.number, *self.size, *self.settings, *self.light, *self.rect, *self.lent,
-                self.first[MAP], self.first[PICTURE])
+        return (self.number, *self.size, *self.settings, *self.light, *self.rect, *self.lent[:MASK],
+                self.first[MAP], self.first[PICTURE], self.lent[MASK])
 
 
 class Run:
@@ -189,6 +211,18 @@ class Run:
         assert first + count <= ROOM[which]
         self.buffers[which][first:first + count] = fitted(which, values)
 
+    def show(self, size, more=0, left=0, right=None, top=0, bottom=None, across=1, down=1, keep=16, byte=0):
+        """Fills the mask of a frame, and some bytes past it as rows that go on.  All of it is seen but for what is said."""
+        W, H = size
+        count = W * H + more
+        right = W if right is None else right
+        bottom = H + more if bottom is None else bottom
+        seed = self.random.randrange(2 ** 16)
+        numbers = (count, W, left, right, top, bottom, across, down, seed, keep, byte)
+        self.give((SHOW, *numbers))
+        assert count <= ROOM[MASK]
+        self.buffers[MASK][:count] = shown(*numbers)
+
     def put(self, which, values):
         """Writes just these values, one fill for each run of equal ones."""
         first = 0
@@ -208,8 +242,8 @@ class Run:
             assert len(entries) == len(buffer[part])
             buffer[part] = entries
         words = "refused %d" % number if number else in_words(call.number, values)
-        frame, new, map, picture, work = after
-        self.answered.append(words + said(frame) + said(new) + said(map) + said(picture) + work_said(work))
+        frame, new, map, picture, work, mask = after
+        self.answered.append(words + said(mask) + said(frame) + said(new) + said(map) + said(picture) + work_said(work))
         return number, values
 
 
@@ -222,30 +256,30 @@ def in_words(call, values):
     return "done"
 
 
-def answer(call, frame, new, map, picture, work):
-    """Number, values, and the five lent parts after a call."""
+def answer(call, frame, new, map, picture, work, mask):
+    """Number, values, and the six lent parts after a call."""
     size, settings, light, rect = call.size, call.settings, call.light, call.rect
-    kept = (frame, new, map, picture, work)
+    kept = (frame, new, map, picture, work, mask)
     if call.number == LIGHT:
-        number, values = rules.light(size, settings, frame, len(work))
-        after = lambda: (frame, new, map, picture, rules.work_after(size, work))
+        number, values = rules.light(size, settings, mask, frame, len(work))
+        after = lambda: (frame, new, map, picture, rules.work_after(size, work), mask)
     elif call.number == REPLACE:
-        number, values = rules.replace(size, settings, light, rect, new, frame, map, picture, len(work))
-        after = lambda: (values[0], new, values[1], values[2], rules.work_after(size, work))
+        number, values = rules.replace(size, settings, light, rect, new, mask, frame, map, picture, len(work))
+        after = lambda: (values[0], new, values[1], values[2], rules.work_after(size, work), mask)
     elif call.number == HAZE:
         number, values = rules.haze(size, light, frame, map, len(picture))
-        after = lambda: (frame, new, map, values, work)
+        after = lambda: (frame, new, map, values, work, mask)
     elif call.number == BAND:
         number, values = rules.band(size, map, rect[0], rect[1])
         after = lambda: kept
     else:
-        number, values = rules.clear(size, settings, light, frame, len(map), len(picture), len(work))
-        after = lambda: (frame, new, *values, rules.work_after(size, work))
+        number, values = rules.clear(size, settings, light, mask, frame, len(map), len(picture), len(work))
+        after = lambda: (frame, new, *values, rules.work_after(size, work), mask)
     return number, values, kept if number else after()
 
 
 # ---------------------------------------------------------------------------
-# Frames, settings and lights
+# Frames, masks, settings and lights
 # ---------------------------------------------------------------------------
 
 def frame_of(run, size, kind):
@@ -263,6 +297,41 @@ def frame_of(run, size, kind):
         dict(low=pick(3), noise=2 + pick(3), spots=3 + pick(60)),     # black with bright spots
     )
     run.fill(FRAME, count, **shapes[kind % len(shapes)])
+
+
+def masks(run, size):
+    """What is shown by each kind of mask, as `Run.show` takes it."""
+    W, H = size
+    upto = run.random.randint
+    x, y = upto(0, W - 1), upto(0, H - 1)
+    return {
+        "all seen": dict(),
+        "all hidden": dict(right=0),
+        "columns": dict(left=upto(0, 1), across=upto(2, 3)),
+        "rows": dict(top=upto(0, 1), down=upto(2, 3)),
+        "one seen": dict(left=x, right=x + 1, top=y, bottom=y + 1),
+        "single ones": dict(left=x % 3, across=upto(2, 5), top=y % 3, down=upto(2, 5)),
+        "hidden border": dict(left=1, right=W - 1, top=1, bottom=H - 1),
+        "hood": dict(bottom=upto(1, H)),
+        "half": dict(keep=8),
+        "some": dict(keep=upto(1, 15)),
+    }
+
+
+# The kinds of mask in the order in which cases take them in turn; 13 fits into no other turn of these runs.
+TURNS = ("all seen", "hood", "columns", "all seen", "hidden border", "half", "all hidden", "all seen", "rows", "one seen",
+         "all seen", "single ones", "some")
+
+
+def mask_of(run, size, turn):
+    """Fills the mask with one kind; its seen bytes are one byte, or four of them."""
+    kind = masks(run, size)[TURNS[turn % len(TURNS)]]
+    run.show(size, byte=run.random.choice((0, 0, 1, 2, 128, 255)), **kind)
+
+
+def see_all(run):
+    """Fills the mask, whatever the frame, with seen bytes."""
+    run.show((MOST_SIDE, MOST_SIDE), more=1, byte=1)
 
 
 def lend_unlike(run, size):
@@ -315,6 +384,7 @@ def any_rect(run, size):
 
 def figures(run):
     """P1 to P4, P8 and P11, and the figures that are run only."""
+    see_all(run)
     plain = (0, 0, 9500, 59, 1000, 1)
     whole = (
         ((1, 1), plain, (200, 150, 100)),                       # P1
@@ -348,10 +418,12 @@ def all_calls(run, size, settings, kind, light=None):
     """Light, Clear with that light or another, Band figure and Haze on one frame."""
     W, H = size
     frame_of(run, size, kind)
+    mask_of(run, size, kind)
     lend_unlike(run, size)
     number, found = run.call(Call(LIGHT, size, settings))
     spoil_work(run, size)
-    used = light or found
+    # Where nothing is seen, no light is found.
+    used = light or found or any_light(run)
     # A work area may be longer than asked for.
     run.call(Call(CLEAR, size, settings, used).but(more={WORK: run.random.choice((0, 0, 1))}))
     start = run.random.randrange(H)
@@ -372,7 +444,7 @@ def small_frames(run):
 def middle_frames(run):
     """Sizes to 24 by 24, and a few thin ones."""
     thin = [(1, 24), (24, 1), (2, 17), (130, 1), (1, 130), (97, 2)]
-    sizes = thin + [(run.random.randint(1, 24), run.random.randint(1, 24)) for _ in range(120)]
+    sizes = thin + [(run.random.randint(1, 24), run.random.randint(1, 24)) for _ in range(84)]
     for kind, size in enumerate(sizes):
         most_s, most_r = ((2, 2), (3, 8), (30, 60))[kind % 3]
         settings = rules.DEFAULTS if kind % 10 == 9 else any_settings(run, most_s, most_r)
@@ -408,6 +480,7 @@ def close_ratios(run):
     With radii 0 and an omega of 10,000 an entry is 10,000 less the pixel's ratio.
     """
     ratiocases.assert_told_apart()
+    see_all(run)
     for light, pixels in ratiocases.cases():
         for first in range(0, len(pixels), 12):
             some = pixels[first:first + 12]
@@ -442,7 +515,7 @@ def bands_and_hazes(run):
 # ---------------------------------------------------------------------------
 
 def replacements(run, size, settings, light, rects, kind):
-    """A clearing, then replacements, each compared with a fresh clearing."""
+    """A clearing, then replacements, each compared with a fresh clearing.  The mask is the one that was filled before."""
     # Where the fresh clearing goes: right behind the map and the picture that are kept.
     beside = {MAP: size[0] * size[1], PICTURE: 3 * size[0] * size[1]}
     frame_of(run, size, kind)
@@ -467,16 +540,43 @@ def runs_of_replacements(run):
              ((24, 17), 2, 3), ((16, 24), 1, 5), ((20, 1), 1, 2), ((1, 20), 2, 1))
     for kind, (size, s, r) in enumerate(edges):
         settings = (s, r, *any_settings(run, 0, 0)[2:])
+        mask_of(run, size, kind)
         replacements(run, size, settings, any_light(run), at_edges(*size), kind)
     for kind in range(24):
         size = (run.random.randint(2, 24), run.random.randint(2, 24))
+        mask_of(run, size, kind)
         settings = any_settings(run, *((1, 1), (2, 3), (4, 6), (30, 60))[kind % 4])
         rects = [any_rect(run, size) for _ in range(4)]
         replacements(run, size, settings, any_light(run), rects, kind)
     for kind, (size, s, r) in enumerate((((130, 130), 2, 5), ((130, 90), 1, 20), ((70, 130), 30, 60))):
         settings = (s, r, 9500, 59, 1000, 1)
         rects = [any_rect(run, size) for _ in range(2)] + [(size[0] - 3, size[1] - 2, 3, 2)]
+        mask_of(run, size, 3 * kind + 1)
         replacements(run, size, settings, any_light(run), rects, kind)
+
+
+def under_the_hood(run):
+    """A hood in the lower rows: rectangles wholly under it, half under it, at its edge and above it."""
+    size = W, H = (19, 14)
+    hood = 9
+    rects = ((4, 11, 6, 2), (0, hood, W, H - hood), (5, hood - 2, 7, 4), (0, hood - 1, W, 1), (0, hood, W, 1), (W - 1, H - 1, 1, 1),
+             (3, 2, 4, 3))
+    for kind, (s, r) in enumerate(((0, 0), (1, 1), (2, 3))):
+        run.show(size, bottom=hood, byte=(255, 2, 128)[kind])
+        replacements(run, size, (s, r, 9500, 59, 1000, 1), any_light(run), rects, kind)
+
+
+def every_mask(run):
+    """Each kind of mask on a frame of twelve pixels, so that the answer shows it; all-seen ones of each byte."""
+    size = (4, 3)
+    kinds = [*masks(run, size).values(), *(dict(byte=byte) for byte in SEEN_BYTES)]
+    for turn, kind in enumerate(kinds):
+        settings = (1, 1, 9500, 59, 1000, (1, 500, 1000)[turn % 3])
+        frame_of(run, size, (0, 4, 5)[turn % 3])
+        run.show(size, **kind)
+        lend_unlike(run, size)
+        run.call(Call(LIGHT, size, settings))
+        run.call(Call(CLEAR, size, settings, any_light(run)))
 
 
 def replacements_into_anything(run):
@@ -486,6 +586,7 @@ def replacements_into_anything(run):
         settings = any_settings(run, *((0, 0), (1, 1), (2, 4))[kind % 3])
         rect = any_rect(run, size)
         frame_of(run, size, kind)
+        mask_of(run, size, kind)
         lend_unlike(run, size)
         run.fill(NEW, 3 * rect[2] * rect[3], noise=256)
         run.call(Call(REPLACE, size, settings, any_light(run), rect))
@@ -511,7 +612,8 @@ def settings_with(place, value):
 def faults(number):
     """For each number that a call can give, the changes that bring it about.
 
-    A change of 8 is a pair: which entry of the map, and what it holds.
+    A change of 8 is a pair: which entry of the map, and what it holds.  A change
+    of 14 is how many bytes of the mask are hidden.
     """
     W, H = SMALL
     sizes = [dict(size=size) for size in BAD_SIZES]
@@ -521,6 +623,7 @@ def faults(number):
     frame = [dict(more={FRAME: by}) for by in (-1, 1, -3, 3)] + [dict(lent={FRAME: 0})]
     map = [dict(more={MAP: by}) for by in (-1, 1)] + [dict(lent={MAP: 0})]
     picture = [dict(more={PICTURE: by}) for by in (-1, 1)] + [dict(lent={PICTURE: 0})]
+    mask = [dict(more={MASK: by}) for by in (-1, 1)] + [dict(lent={MASK: 0})]
     work = [dict(more={WORK: -1}), dict(lent={WORK: 0}), dict(lent={WORK: 8 * W * H})]
     light = [dict(light=light) for light in ((0, 190, 180), (200, 0, 180), (200, 190, 0), (0, 0, 0))]
     rects = [dict(rect=rect) for rect in (
@@ -533,9 +636,9 @@ def faults(number):
     new = [dict(more={NEW: by}) for by in (-1, 1, -3, 3)] + [dict(lent={NEW: 0})]
     above = [(place, value) for place in (0, 3, W * H - 1) for value in (10001, 65535)]
     return {
-        LIGHT: {1: sizes, 2: settings, 3: frame, 4: work},
-        CLEAR: {1: sizes, 2: settings, 3: frame, 4: picture + map + work, 5: light},
-        REPLACE: {1: sizes, 2: settings, 3: frame, 4: picture + map + work, 5: light, 6: rects, 7: new},
+        LIGHT: {1: sizes, 2: settings, 3: frame, 4: mask + work, 14: [W * H, W * H + 9]},
+        CLEAR: {1: sizes, 2: settings, 3: frame, 4: mask + picture + map + work, 5: light},
+        REPLACE: {1: sizes, 2: settings, 3: frame, 4: mask + picture + map + work, 5: light, 6: rects, 7: new},
         HAZE: {1: sizes, 3: frame, 4: picture + map, 5: light, 8: above},
         BAND: {1: sizes, 4: map, 6: bands, 8: above},
     }[number]
@@ -551,6 +654,8 @@ def refuse(run, number, wrong):
         if fault == 8:
             place, value = change
             run.fill(MAP, 1, low=value, first=place)
+        elif fault == 14:
+            run.show(SMALL, more=change - SMALL[0] * SMALL[1], right=0)
         else:
             call = call.but(**change)
     # A map that is not lent to its full length may leave the bad entry out.
@@ -560,6 +665,8 @@ def refuse(run, number, wrong):
     for fault, change in wrong:
         if fault == 8:
             run.fill(MAP, 1, low=5000, first=change[0])
+        elif fault == 14:
+            run.show(SMALL, more=9)
 
 
 def sized_anew(run, number):
@@ -579,6 +686,7 @@ def refusals(run):
         run.fill(MAP, W * H + 9, noise=10001)
         run.fill(PICTURE, 3 * W * H + 9, noise=256)
         run.fill(WORK, rules.work_needed(SMALL) + 9, noise=65536)
+        run.show(SMALL, more=9)
         table = faults(number)
         sized_anew(run, number)
         for fault, changes in table.items():
@@ -590,10 +698,22 @@ def refusals(run):
                                      for fault in (low, high)])
         for turn in range(3):
             refuse(run, number, [(fault, changes[turn % len(changes)]) for fault, changes in table.items()])
+        # A mask of another length that hides everything, or everything but the byte too many.
+        for wrong, hidden in itertools.product(table[4], table.get(14, [])):
+            refuse(run, number, [(4, wrong), (14, hidden)])
 
 
 def ends_of_ranges(run):
-    """The last values that are accepted."""
+    """The last values that are accepted, and masks that show one pixel or none."""
+    W, H = SMALL
+    for x, y in itertools.product(range(W), range(H)):
+        run.show(SMALL, left=x, right=x + 1, top=y, bottom=y + 1)
+        run.call(Call(LIGHT, SMALL, settings_with(0, 1)))
+    run.show(SMALL, right=0)
+    for number in (CLEAR, REPLACE):
+        lend_unlike(run, SMALL)
+        run.call(Call(number, SMALL, settings_with(0, 1)))
+    see_all(run)
     for number in (LIGHT, CLEAR, REPLACE):
         for place, (least, greatest) in enumerate(rules.SETTINGS):
             for value in (least, greatest):
@@ -620,7 +740,7 @@ def made():
     """All commands and all answers, as the two files have them."""
     run = Run()
     for part in (figures, small_frames, refusals, ends_of_ranges, middle_frames, bands_and_hazes,
-                 replacements_into_anything, runs_of_replacements, large_frames, close_ratios):
+                 replacements_into_anything, runs_of_replacements, under_the_hood, every_mask, large_frames, close_ratios):
         part(run)
     given = "".join(line + "\n" for line in run.given)
     answered = "".join(line + "\n" for line in run.answered)

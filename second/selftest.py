@@ -7,7 +7,8 @@ refusals of each call, the edges of each range, and comparisons on seeded random
 frames: the fast path with the plain path, Replace with a fresh Clear, the text
 with a second reader made of patterns.  The checks of PPM files stand in
 ppmtest.py, those of depths in depthtest.py, those of settings in settingtest.py,
-those of what the whole numbers cost in exacttest.py.
+those of masks in masktest.py, those of what the whole numbers cost in exacttest.py.
+Where nothing is said of a mask, it is all seen.
 
 It prints one line for each group.  Where a check fails it prints what failed
 and ends with status 1.
@@ -31,6 +32,7 @@ sys.path.insert(0, HERE)
 
 import depthtest
 import exacttest
+import masktest
 import ppmtest
 import rules
 import settingtest
@@ -79,18 +81,18 @@ def count_of(size):
 
 
 def light_of(size, settings, frame):
-    return rules.light(size, settings, frame, rules.work_needed(size))
+    return rules.light(size, settings, rules.all_seen(size), frame, rules.work_needed(size))
 
 
 def clear_of(size, settings, light, frame):
     count = count_of(size)
-    return rules.clear(size, settings, light, frame, count, 3 * count,
+    return rules.clear(size, settings, light, rules.all_seen(size), frame, count, 3 * count,
                        rules.work_needed(size))
 
 
 def replace_of(size, settings, light, rect, new, frame, map, picture):
-    return rules.replace(size, settings, light, rect, new, frame, map, picture,
-                         rules.work_needed(size))
+    return rules.replace(size, settings, light, rect, new, rules.all_seen(size), frame, map,
+                         picture, rules.work_needed(size))
 
 
 def haze_of(size, light, clean, map):
@@ -154,19 +156,19 @@ def group_p1_to_p4(same):
     same("P2 light", light_of((2, 1), P2_SETTINGS, P2_FRAME), (0, grey))
     same("P2 clear", clear_of((2, 1), P2_SETTINGS, grey, P2_FRAME),
          (0, ([500, 5250], [200, 200, 200, 10, 105, 162])))
-    coarse = rules.coarse_values((2, 1), P3_SETTINGS, grey, P2_FRAME)
+    coarse = rules.coarse_values((2, 1), P3_SETTINGS, grey, [1, 1], P2_FRAME)
     same("P3 coarse", coarse, [500, 5250])
-    same("P3 guide", rules.guides(P2_FRAME), [600, 430])
+    same("P3 guide", rules.guides([1, 1], P2_FRAME), [600, 430])
     same("P3 slopes and offsets",
          rules.slopes_and_offsets((2, 1), 1, 59, [600, 430], coarse),
          ([-28381, -28381], [17560215, 17560215]))
     same("P3 slopes and offsets, plain",
-         rules.plain_slopes_and_offsets((2, 1), P3_SETTINGS, grey, P2_FRAME),
-         ([600, 430], [-28381, -28381], [17560215, 17560215]))
+         rules.plain_slopes_and_offsets((2, 1), P3_SETTINGS, grey, [1, 1], P2_FRAME),
+         ({0: 600, 1: 430}, {0: -28381, 1: -28381}, {0: 17560215, 1: 17560215}))
     # Green: -50 * 10000 / 5230 is -95.6, so -96.
     same("P3 clear", clear_of((2, 1), P3_SETTINGS, grey, P2_FRAME),
          (0, ([519, 5230], [200, 200, 200, 9, 104, 162])))
-    same("P3 clear, plain", rules.plain_clear((2, 1), P3_SETTINGS, grey, P2_FRAME),
+    same("P3 clear, plain", rules.plain_clear((2, 1), P3_SETTINGS, grey, [1, 1], P2_FRAME),
          ([519, 5230], [200, 200, 200, 9, 104, 162]))
     same("P4 light", light_of((1, 1), P2_SETTINGS, [0, 0, 0]), (0, (1, 1, 1)))
     same("P4 clear", clear_of((1, 1), P2_SETTINGS, (1, 1, 1), [0, 0, 0]),
@@ -177,8 +179,8 @@ def group_p5_to_p11(same):
     for I, A, T, want in ((255, 100, 1000, 255), (90, 100, 1000, 0), (89, 100, 1000, 0),
                           (101, 100, 3000, 103), (99, 100, 3000, 97)):
         same("P5, P6 channel %d" % I, rules.cleared_channel(I, A, T), want)
-    for size, want in (((999, 1), 1), ((1000, 1), 1), ((1000, 2), 2), ((1000, 3), 3)):
-        same("P7 count of %s" % (size,), rules.candidate_count(size, 1), want)
+    for seen, want in ((999, 1), (1000, 1), (2000, 2), (3000, 3)):
+        same("P7 count of %d" % seen, rules.candidate_count(seen, 1), want)
     # The pixel ranked first is grey, the second one is brighter.
     for H, want in ((1, (100, 100, 100)), (2, (90, 255, 255))):
         frame = [0] * (3 * 1000 * H)
@@ -188,8 +190,8 @@ def group_p5_to_p11(same):
     same("P8", haze_of((1, 1), (255, 255, 255), [0, 0, 0], [5000]), (0, [128, 128, 128]))
     same("P9", rules.ratio(250, 200), 10000)
     same("P9, one below", rules.ratio(199, 200), 9950)
-    same("P10", rules.window_sizes((3, 3), 1), [4, 6, 4, 6, 9, 6, 4, 6, 4])
-    same("P10, plain", [len(rules.plain_window((3, 3), p, 1)) for p in range(9)],
+    same("P10", rules.window_sizes((3, 3), 1, [7] * 9), [4, 6, 4, 6, 9, 6, 4, 6, 4])
+    same("P10, plain", [len(rules.plain_window((3, 3), [1] * 9, p, 1)) for p in range(9)],
          [4, 6, 4, 6, 9, 6, 4, 6, 4])
     number, figure = rules.band((2, 1), [519, 5230], 0, 1)
     same("P11 number", number, 0)
@@ -267,6 +269,7 @@ BASE = {
     "light": (200, 180, 190),
     "rect": (1, 0, 2, 1),
     "new": [10, 20, 30, 40, 50, 60],
+    "mask": [1, 0, 2, 0, 128, 255],
     "frame": list(range(60, 78)),
     "clean": list(range(60, 78)),
     "map": [0, 10000, 3, 4, 5, 6],
@@ -280,11 +283,12 @@ BASE = {
 }
 
 CALLS = {
-    "light": (rules.light, (1, 2, 3, 4), ("size", "settings", "frame", "work_len")),
+    "light": (rules.light, (1, 2, 3, 4, 14), ("size", "settings", "mask", "frame", "work_len")),
     "clear": (rules.clear, (1, 2, 3, 4, 5),
-              ("size", "settings", "light", "frame", "map_len", "picture_len", "work_len")),
+              ("size", "settings", "light", "mask", "frame", "map_len", "picture_len",
+               "work_len")),
     "replace": (rules.replace, (1, 2, 3, 4, 5, 6, 7),
-                ("size", "settings", "light", "rect", "new", "frame", "map", "picture",
+                ("size", "settings", "light", "rect", "new", "mask", "frame", "map", "picture",
                  "work_len")),
     "haze": (rules.haze, (1, 3, 4, 5, 8), ("size", "light", "clean", "map", "hazed_len")),
     "band": (rules.band, (1, 4, 6, 8), ("size", "map", "start", "end")),
@@ -316,7 +320,8 @@ def faults_of(name, number):
               ("hazed_len", 17), ("hazed_len", 19), ("hazed_len", 0),
               ("work_len", 95), ("work_len", 0))]
             + [{"picture": [1] * 17}, {"picture": [1] * 19}, {"map": [1] * 5},
-               {"map": [1] * 7}, {"map": []}]),
+               {"map": [1] * 7}, {"map": []}]
+            + [{"mask": mask} for mask in ([1] * 5, [1] * 7, [0] * 5, [0] * 7, [])]),
         5: [{"light": light} for light in ((0, 180, 190), (200, 0, 190), (200, 180, 0))],
         6: ([{"rect": rect} for rect in ((1, 0, 3, 1), (1, 0, 0, 1), (1, 2, 2, 1),
                                          (WIDEST, 0, 2, 1))]
@@ -325,6 +330,7 @@ def faults_of(name, number):
              {"end": WIDEST}]),
         7: [{"new": [1] * length} for length in (0, 3, 5, 7)],
         8: [{"map": bright}, {"map": [10001] + BASE["map"][1:]}, {"map": [65535] * 6}],
+        14: [{"mask": [0] * 6}],
     }
     return [way for way in ways[number] if set(way) <= set(given)]
 
@@ -429,8 +435,8 @@ def group_light_by_hand(same):
     same("dark radius 1",
          light_of((3, 1), (1, 0, 9500, 59, 1000, 1), [0, 0, 0, 200, 200, 200, 90, 90, 90]),
          (0, (90, 90, 90)))
-    same("m is cut down", rules.candidate_count((3, 1), 999), 2)
-    same("m of the whole frame", rules.candidate_count((3, 1), 1000), 3)
+    same("m is cut down", rules.candidate_count(3, 999), 2)
+    same("m of the whole frame", rules.candidate_count(3, 1000), 3)
 
 
 # ---------------------------------------------------------------------------
@@ -648,18 +654,20 @@ def group_plain_and_fast(same):
             # 10000/8000 is 1.25, so a difference of 2 is a quotient of 2.5.
             settings = settings[:4] + (8000,) + settings[5:]
         frame = random_frame(chance, count_of(size))
+        mask = rules.all_seen(size)
         what = "frame %d" % turn
-        found = rules.plain_light(size, settings, frame)
+        found = rules.plain_light(size, settings, mask, frame)
         same(what + ", light", light_of(size, settings, frame), (0, found))
         light = found if turn % 2 else random_light(chance)
-        guide, slopes, offsets = rules.plain_slopes_and_offsets(size, settings, light, frame)
-        coarse = rules.coarse_values(size, settings, light, frame)
-        same(what + ", guide", rules.guides(frame), guide)
+        plain = rules.plain_slopes_and_offsets(size, settings, light, mask, frame)
+        guide, slopes, offsets = [list(values.values()) for values in plain]
+        coarse = rules.coarse_values(size, settings, light, mask, frame)
+        same(what + ", guide", rules.guides(mask, frame), guide)
         same(what + ", slopes and offsets",
              rules.slopes_and_offsets(size, settings[1], settings[3], guide, coarse),
              (slopes, offsets))
         number, fast = clear_of(size, settings, light, frame)
-        same(what + ", clear", (number, fast), (0, rules.plain_clear(size, settings, light, frame)))
+        same(what + ", clear", (number, fast), (0, rules.plain_clear(size, settings, light, mask, frame)))
         note_what_happened(seen, settings, light, frame, size, slopes, offsets, guide, fast)
     for thing, times in seen.items():
         same("%s was met" % thing, times > 0, True)
@@ -734,7 +742,7 @@ def group_replace_reach(same):
         rect = random_rect(chance, size)
         new = random_frame(chance, rect[2] * rect[3])
         after = placed(size, rect, new, frame)
-        want_map, want_picture = rules.plain_clear(size, settings, light, after)
+        want_map, want_picture = rules.plain_clear(size, settings, light, rules.all_seen(size), after)
         for p in range(W * H):
             if distance(p, size, rect) > reach:
                 want_map[p] = map[p]
@@ -921,8 +929,9 @@ def text_by_patterns(data):
     if refused:
         return "bad\t%d\t%d\n" % refused
     size, settings, frame = given
-    light = rules.plain_light(size, settings, frame)
-    map, picture = rules.plain_clear(size, settings, light, frame)
+    mask = [255] * count_of(size)
+    light = rules.plain_light(size, settings, mask, frame)
+    map, picture = rules.plain_clear(size, settings, light, mask, frame)
     output = "light\t%d\t%d\t%d\n" % light
     for p, entry in enumerate(map):
         output += "out\t%d\t%d\t%d\t%d\n" % (entry, *picture[3 * p:3 * p + 3])
@@ -1006,7 +1015,7 @@ GROUPS = (
     ("text, refusals by hand", group_text_refusals),
     ("text, random edits", group_text_random),
     ("text, largest frame", group_text_largest),
-) + exacttest.GROUPS + ppmtest.GROUPS + depthtest.GROUPS + settingtest.GROUPS
+) + masktest.GROUPS + exacttest.GROUPS + ppmtest.GROUPS + depthtest.GROUPS + settingtest.GROUPS
 
 
 def run_group(name, group):

@@ -108,12 +108,16 @@ def written(name, numbers):
 
 
 def cleared(size, settings, frame):
-    """The output for a text that is not refused.  The light is found, then used."""
+    """The output for a text that is not refused.  The light is found, then used.
+
+    Every text means an all-seen mask.
+    """
     W, H = size
     work = rules.work_needed(size)
-    refusal, light = rules.light(size, settings, frame, work)
+    mask = rules.all_seen(size)
+    refusal, light = rules.light(size, settings, mask, frame, work)
     assert refusal == 0
-    refusal, values = rules.clear(size, settings, light, frame, W * H, 3 * W * H, work)
+    refusal, values = rules.clear(size, settings, light, mask, frame, W * H, 3 * W * H, work)
     assert refusal == 0
     map, picture = values
     output = [written(b"light", light)]

@@ -9,9 +9,14 @@ This file prints, with all inputs:
     (f) a tiny frame where the lowest position decides between candidates
     (g) a tiny frame where the lower position decides who is a candidate
     (h) tiny frames whose refined value is above 10,000 or below 0 until it is held
+    (i) that frame under a mask with hidden pixels, with a single seen pixel and
+        with none: light or refusal, lines, map and picture
+    (j) new pixels in that frame under a mask, at seen and hidden places, for
+        three reaches
 
-Frames (e) and (h) are found by a search that runs the same way every time.
-Every result is held against the plain path before it is printed.
+Without a mask all is seen.  Frames (e) and (h) are found by a search that runs
+the same way every time.  Every result is held against the plain path before it
+is printed.
 """
 
 import os
@@ -31,6 +36,13 @@ FRAME = [(k * 37 + 11) % 256 for k in range(3 * 4 * 3)]
 LIGHT = (200, 180, 190)
 SETTINGS = (1, 1, 9500, 59, 1000, 1)
 LIGHT_SETTINGS = (1, 1, 9500, 59, 1000, 300)
+MASKS = (
+    ("hidden pixels", [1, 0, 2, 255, 0, 128, 1, 1, 1, 1, 0, 1]),
+    ("a single seen pixel", [0, 0, 0, 0, 0, 0, 1, 0, 0, 0, 0, 0]),
+    ("nothing seen", [0] * 12),
+)
+RECT = (0, 0, 2, 2)
+NEW = [240, 10, 20, 30, 250, 60, 70, 80, 235, 200, 190, 180]
 SMALL_SIZES = ((2, 1), (1, 2), (3, 1), (1, 3), (2, 2), (3, 2), (2, 3), (3, 3))
 
 
@@ -44,19 +56,21 @@ def must(condition, what):
         raise SystemExit("not as it should be: " + what)
 
 
-def light_of(size, settings, frame):
-    number, light = rules.light(size, settings, frame, rules.work_needed(size))
+def light_of(size, settings, frame, mask=None):
+    mask = mask or rules.all_seen(size)
+    number, light = rules.light(size, settings, mask, frame, rules.work_needed(size))
     must(number == 0, "light accepted")
-    must(light == rules.plain_light(size, settings, frame), "light as the plain path has it")
+    must(light == rules.plain_light(size, settings, mask, frame), "light as the plain path has it")
     return light
 
 
-def clear_of(size, settings, light, frame):
+def clear_of(size, settings, light, frame, mask=None):
+    mask = mask or rules.all_seen(size)
     count = size[0] * size[1]
-    number, values = rules.clear(size, settings, light, frame, count, 3 * count,
+    number, values = rules.clear(size, settings, light, mask, frame, count, 3 * count,
                                  rules.work_needed(size))
     must(number == 0, "clear accepted")
-    must(values == rules.plain_clear(size, settings, light, frame),
+    must(values == rules.plain_clear(size, settings, light, mask, frame),
          "clear as the plain path has it")
     return values
 
@@ -66,11 +80,13 @@ def bits(value):
     return int.from_bytes(struct.pack(">d", value), "big")
 
 
-def say_inputs(size, settings, frame, light=None):
+def say_inputs(size, settings, frame, light=None, mask=None):
     say("size W H", size)
     say("settings s r omega E t0 share", settings)
     if light is not None:
         say("light", light)
+    if mask is not None:
+        say("mask", mask)
     say("frame", frame)
 
 
@@ -82,8 +98,8 @@ def vector_a():
     print("(a) clear")
     say_inputs(SIZE, SETTINGS, FRAME, LIGHT)
     map, picture = clear_of(SIZE, SETTINGS, LIGHT, FRAME)
-    say("coarse", rules.coarse_values(SIZE, SETTINGS, LIGHT, FRAME))
-    guide, slopes, offsets = rules.plain_slopes_and_offsets(SIZE, SETTINGS, LIGHT, FRAME)
+    guide, coarse, slopes, offsets = parts(SIZE, SETTINGS, LIGHT, FRAME)
+    say("coarse", coarse)
     say("guide", guide)
     say("slopes", slopes)
     say("offsets", offsets)
@@ -95,12 +111,18 @@ def vector_a():
 def vector_b():
     print("(b) light")
     say_inputs(SIZE, LIGHT_SETTINGS, FRAME)
-    dark = rules.dark_values(SIZE, 1, FRAME)
-    m = rules.candidate_count(SIZE, 300)
+    say_candidates(SIZE, LIGHT_SETTINGS, FRAME)
+    say("light", light_of(SIZE, LIGHT_SETTINGS, FRAME))
+
+
+def say_candidates(size, settings, frame, mask=None):
+    """Dark values, m and candidates.  A hidden pixel's dark value is None."""
+    mask = mask or rules.all_seen(size)
+    dark = rules.dark_values(size, settings[0], mask, frame)
+    m = rules.candidate_count(len(mask) - mask.count(0), settings[5])
     say("dark values", dark)
     say("m", m)
     say("candidates in rank order", rules.candidates(dark, m))
-    say("light", light_of(SIZE, LIGHT_SETTINGS, FRAME))
 
 
 def vector_c(map):
@@ -150,7 +172,7 @@ def tries(sizes, seed, each):
 def window_sums(size, r, guide, coarse):
     """n, Sg, St, Sgg and Sgt at each pixel."""
     return list(zip(
-        rules.window_sizes(size, r),
+        rules.window_sizes(size, r, guide),
         rules.over_windows(size, guide, r, sum),
         rules.over_windows(size, coarse, r, sum),
         rules.over_windows(size, [g * g for g in guide], r, sum),
@@ -171,13 +193,14 @@ def map_from(size, r, guide, slopes, offsets):
     return [rules.held(value, 0, 10000) for value in raw]
 
 
-def parts(size, settings, light, frame):
-    """Guide, coarse values, slopes and offsets."""
-    guide = rules.guides(frame)
-    coarse = rules.coarse_values(size, settings, light, frame)
+def parts(size, settings, light, frame, mask=None):
+    """Guide, coarse values, slopes and offsets.  A hidden pixel's are None."""
+    mask = mask or rules.all_seen(size)
+    guide = rules.guides(mask, frame)
+    coarse = rules.coarse_values(size, settings, light, mask, frame)
     slopes, offsets = rules.slopes_and_offsets(size, settings[1], settings[3], guide, coarse)
-    must((guide, slopes, offsets)
-         == rules.plain_slopes_and_offsets(size, settings, light, frame),
+    plain = rules.plain_slopes_and_offsets(size, settings, light, mask, frame)
+    must([guide, slopes, offsets] == [[values.get(p) for p in range(len(mask))] for values in plain],
          "slopes and offsets as the plain path has them")
     return guide, coarse, slopes, offsets
 
@@ -218,8 +241,8 @@ def vector_e():
 
 def light_with(size, settings, frame, rank_sign, tie_sign):
     """Light with its two tie rules, sign 1 for lowest position, -1 for last."""
-    dark = rules.dark_values(size, settings[0], frame)
-    m = rules.candidate_count(size, settings[5])
+    dark = rules.dark_values(size, settings[0], rules.all_seen(size), frame)
+    m = rules.candidate_count(len(dark), settings[5])
     ranked = sorted(range(len(dark)), key=lambda p: (-dark[p], rank_sign * p))
     colours = rules.pixels(frame)
     best = min(ranked[:m], key=lambda p: (-sum(colours[p]), tie_sign * p))
@@ -229,13 +252,9 @@ def light_with(size, settings, frame, rank_sign, tie_sign):
 def say_light(size, settings, frame):
     light = light_of(size, settings, frame)
     must(light == light_with(size, settings, frame, 1, 1), "light by both signs 1")
-    dark = rules.dark_values(size, settings[0], frame)
-    m = rules.candidate_count(size, settings[5])
     say_inputs(size, settings, frame)
-    say("dark values", dark)
-    say("R+G+B", rules.guides(frame))
-    say("m", m)
-    say("candidates in rank order", rules.candidates(dark, m))
+    say("R+G+B", rules.guides(rules.all_seen(size), frame))
+    say_candidates(size, settings, frame)
     say("light", light)
     return light
 
@@ -288,6 +307,57 @@ def vector_h(what, settings, is_it):
     say("picture", picture)
 
 
+# ---------------------------------------------------------------------------
+# (i) and (j)
+# ---------------------------------------------------------------------------
+
+def vector_i(what, mask):
+    # With a share of 600, m is another number for 9 seen pixels than for 12.
+    for settings in (SETTINGS, (*SETTINGS[:5], 600)):
+        print("(i) a mask, %s: light" % what)
+        say_inputs(SIZE, settings, FRAME, mask=mask)
+        number, light = rules.light(SIZE, settings, mask, FRAME, rules.work_needed(SIZE))
+        if number:
+            say("refused", number)
+        else:
+            say_candidates(SIZE, settings, FRAME, mask)
+            say("light", light_of(SIZE, settings, FRAME, mask))
+    print("(i) a mask, %s: clear" % what)
+    say_inputs(SIZE, SETTINGS, FRAME, LIGHT, mask)
+    guide, coarse, slopes, offsets = parts(SIZE, SETTINGS, LIGHT, FRAME, mask)
+    map, picture = clear_of(SIZE, SETTINGS, LIGHT, FRAME, mask)
+    say("n", rules.window_sizes(SIZE, SETTINGS[1], guide))
+    say("coarse", coarse)
+    say("guide", guide)
+    say("slopes", slopes)
+    say("offsets", offsets)
+    say("map", map)
+    say("picture", picture)
+
+
+def vector_j(s, r):
+    print("(j) new pixels under a mask, reach %d" % (s + 2 * r))
+    mask, settings = MASKS[0][1], (s, r, *SETTINGS[2:])
+    # What no clearing gives, so that it shows where the values stay.
+    old_map, old_picture = [1] * len(mask), [7] * len(FRAME)
+    say_inputs(SIZE, settings, FRAME, LIGHT, mask)
+    say("rectangle", RECT)
+    say("new pixels", NEW)
+    say("map before", old_map)
+    say("picture before", old_picture)
+    number, (frame, map, picture) = rules.replace(
+        SIZE, settings, LIGHT, RECT, NEW, mask, FRAME, old_map, old_picture, rules.work_needed(SIZE))
+    must(number == 0, "replace accepted")
+    fresh_map, fresh_picture = rules.plain_clear(SIZE, settings, LIGHT, mask, frame)
+    must(all(entry in (old, fresh) for entry, old, fresh in zip(map, old_map, fresh_map)),
+         "each entry stays or is the plain path's")
+    must(all(byte in (old, fresh) for byte, old, fresh in zip(picture, old_picture, fresh_picture)),
+         "each byte stays or is the plain path's")
+    say("frame after", frame)
+    say("map after", map)
+    say("picture after", picture)
+
+
 def main():
     map = vector_a()
     vector_b()
@@ -300,6 +370,10 @@ def main():
     vector_h("above 10,000", settings, lambda value: value > 10000)
     vector_h("below 0 by its floor", settings, lambda value: value == -1)
     vector_h("below -100", settings, lambda value: value < -100)
+    for what, mask in MASKS:
+        vector_i(what, mask)
+    for s, r in ((0, 0), (1, 0), (1, 1)):
+        vector_j(s, r)
 
 
 if __name__ == "__main__":

@@ -4,6 +4,7 @@
 #include <stddef.h>
 void *memcpy(void *restrict to, const void *restrict from, size_t n);
 void *memset(void *at, int byte, size_t n);
+void *memchr(const void *memory, int byte, size_t count);
 int memcmp(const void *a, const void *b, size_t n);
 int strcmp(const char *a, const char *b);
 int strncmp(const char *a, const char *b, size_t n);

@@ -1,4 +1,4 @@
-"""What help and docs say about pictures, measured anew: how far depth misleads, and what the settings do against noise and halos."""
+"""What help and docs say about pictures, measured anew: how far depth misleads, and what the settings do against noise, halos and the machine's own hood."""
 
 import random
 import statistics
@@ -8,7 +8,7 @@ from pathlib import Path
 
 from common import ROOT, check, done, ppm, put
 
-TOOL = (ROOT / "docs/TOOL.md").read_text()
+TOOL, README = ((ROOT / name).read_text() for name in ("docs/TOOL.md", "README.md"))
 
 
 def numbers(name):
@@ -79,4 +79,28 @@ def halos():
     check(small[0] < 0.55 * usual[0] and small[1] < 0.55 * usual[1] and large[0] > 1.7 * usual[0], "s=3, s=15", usual, small, large)
 
 
-ALL = (misleading, noise, halos)
+def above(mask, rows):
+    """The places up to so many rows above what a mask hides at the bottom of each column."""
+    W, H = map(int, mask.split(b"\n")[1].split())
+    seen = mask[-W * H:]
+    for x in range(W):
+        edge = next(y for y in range(H) if not seen[y * W + x])
+        yield from (y * W + x for y in range(edge - rows, edge))
+
+
+def hood():
+    """The hood keeps haze on the field above it, and under its mask it does not. The figures are those of docs/TOOL.md and of the README."""
+    for name, words in (("field.ppm", []), ("hood.ppm", ["--hood"]), ("mask.pgm", ["--mask"])):
+        subprocess.run([sys.executable, "-I", ROOT / "examples/photo.py", name, *words], check=True)
+    near = list(above(Path("mask.pgm").read_bytes(), 7))
+    means = []
+    for name, words in (("field.ppm", []), ("hood.ppm", []), ("hood.ppm", ["mask=mask.pgm"])):
+        done(["map", name, "map.pgm", *words])
+        entries = numbers("map.pgm")[1]
+        means.append(statistics.mean(entries[p] for p in near))
+    check(means[1] > means[0] + 1000 and abs(means[2] - means[0]) < 100, means)
+    wanted = "in the seven rows above it the map is %.0f on average without a mask, %.0f with it" % tuple(means[1:])
+    check(wanted in README and wanted + ", and %.0f where there is no hood" % means[0] in TOOL, "README.md or docs/TOOL.md does not say:", wanted, means)
+
+
+ALL = (misleading, noise, halos, hood)

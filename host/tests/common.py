@@ -75,14 +75,19 @@ def hazy(size, seed):
 # What the second program says
 # ---------------------------------------------------------------------------
 
-def light_of(size, frame, settings=rules.DEFAULTS):
-    return rules.light(size, settings, frame, rules.work_needed(size))[1]
+def all_seen(size):
+    return [1] * (size[0] * size[1])
 
 
-def cleared(size, frame, settings=rules.DEFAULTS, light=None):
+def light_of(size, frame, settings=rules.DEFAULTS, mask=None):
+    return rules.light(size, settings, mask or all_seen(size), frame, rules.work_needed(size))[1]
+
+
+def cleared(size, frame, settings=rules.DEFAULTS, light=None, mask=None):
     """Map and picture."""
-    light = light or light_of(size, frame, settings)
-    number, (map, picture) = rules.clear(size, settings, light, frame, size[0] * size[1], len(frame), rules.work_needed(size))
+    mask = mask or all_seen(size)
+    light = light or light_of(size, frame, settings, mask)
+    number, (map, picture) = rules.clear(size, settings, light, mask, frame, size[0] * size[1], len(frame), rules.work_needed(size))
     check(number == 0, "the second program refuses", size, settings)
     return map, picture
 

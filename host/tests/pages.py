@@ -68,23 +68,25 @@ def examples_of(text):
 
 
 def examples():
-    """Each page's examples in a folder with the painted field, hazy and clean. All end well, and print what the page says, or nothing."""
+    """Each page's examples in a folder with the painted field, hazy, clean, and with a hood and its mask. All end well, and print what the page says, or
+    nothing."""
     os.mkdir("bin")
     Path("bin/haze").write_text('#!/bin/sh\nexec %s "$@"\n' % " ".join(tool))
     os.chmod("bin/haze", 0o755)
     path = {**os.environ, "PATH": os.path.abspath("bin") + ":" + os.environ["PATH"]}
-    for name, words in (("field.ppm", []), ("clean.ppm", ["--clean"])):
+    painted = {"field.ppm": [], "clean.ppm": ["--clean"], "hood.ppm": ["--hood"], "mask.pgm": ["--mask"]}
+    for name, words in painted.items():
         subprocess.run([sys.executable, "-I", ROOT / "examples/photo.py", name, *words], check=True)
     count = 0
     for topic in TOPICS:
         os.mkdir(topic)
-        for name in ("field.ppm", "clean.ppm"):
+        for name in painted:
             shutil.copy(name, topic)
         for command, prints in examples_of((HELP / (topic + ".txt")).read_text()):
             run = subprocess.run(["sh", "-ec", command], cwd=topic, env=path, capture_output=True, text=True, stdin=subprocess.DEVNULL)
             check((run.returncode, run.stdout, run.stderr) == (0, "".join(prints), ""), topic, command, run)
             count += 1
-    check(count >= 15, "examples were not found:", count)
+    check(count >= 20, "examples were not found:", count)
 
 
 ALL = (same, wrong, version, settings, examples)

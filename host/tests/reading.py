@@ -31,12 +31,17 @@ def endless():
     os.truncate("large.ppm", 10**10)
     put("map.pgm", b"P5\n600 400\n10000\n")
     os.truncate("map.pgm", 10**10)
+    put("mask.pgm", b"P5\n600 400\n255\n")
+    os.truncate("mask.pgm", 10**10)
+    put("small.ppm", ppm((3, 2), range(18)))
     for words, why in ((["clear", "large.ppm", "x"], MORE.format("large.ppm", 720000)), (["clear", "/dev/zero", "x"], "/dev/zero: " + NONE),
-                       (["view", "map.pgm", "x"], MORE.format("map.pgm", 480000)), (["light", "/dev/zero"], "/dev/zero: " + NONE)):
+                       (["view", "map.pgm", "x"], MORE.format("map.pgm", 480000)), (["light", "/dev/zero"], "/dev/zero: " + NONE),
+                       (["light", "small.ppm", "mask=mask.pgm"], MORE.format("mask.pgm", 240000)),
+                       (["light", "small.ppm", "mask=/dev/zero"], "/dev/zero: " + NONE.replace("P6", "P5"))):
         run = haze(*words, timeout=60, **little)
         check((run.returncode, run.stderr) == (1, f"haze: {why}\n"), words, run)
-    Path("large.ppm").unlink()
-    Path("map.pgm").unlink()
+    for name in ("large.ppm", "map.pgm", "mask.pgm"):
+        Path(name).unlink()
 
 
 def long_header(length):
@@ -85,6 +90,16 @@ def no_farther():
             check(file.tell() <= max(len(head) + 3 * size[0] * size[1] + 1, 2 * len(head), 12), "read", file.tell(), "bytes of", size)
 
 
+def masks_no_farther():
+    """Of a mask too: the samples and one byte more."""
+    put("in.ppm", ppm((30, 20), hazy((30, 20), "farther")))
+    put("mask.pgm", b"P5\n30 20\n255\n" + b"\1" * 10**6)
+    with open("mask.pgm", "rb", buffering=0) as file:
+        run = subprocess.run([*common.tool, "light", "in.ppm", "mask=-"], stdin=file, capture_output=True, text=True)
+        check(run.returncode == 1 and "refused 13" in run.stderr, run)
+        check(file.tell() <= len(b"P5\n30 20\n255\n") + 601, "read", file.tell(), "bytes of a mask")
+
+
 def pipes():
     """A pipe with a name, and one that gives a byte at a time; one that is cut; one that stays open after a byte too many."""
     size = (16, 12)
@@ -118,6 +133,7 @@ def unreadable():
     for words in (["clear", "none.ppm", "fresh"], ["add", "none.ppm", "map.pgm", "fresh"], ["add", "frame.ppm", "none.ppm", "fresh"], ["view", "none.ppm", "fresh"]):
         refused(words, "none.ppm: cannot be read: No such file or directory")
     refused(["map", "folder", "fresh"], "folder: cannot be read: Is a directory")
+    refused(["map", "frame.ppm", "fresh", "mask=folder"], "folder: cannot be read: Is a directory")
     refused(["map", "", "fresh"], ": cannot be read: No such file or directory")
 
 
@@ -159,4 +175,4 @@ def closed():
     check(Path("said").read_text() == "haze: standard output: cannot be written: Bad file descriptor\n", Path("said").read_text())
 
 
-ALL = (endless, header_limit, as_whole, no_farther, pipes, unreadable, little_memory, closed)
+ALL = (endless, header_limit, as_whole, no_farther, masks_no_farther, pipes, unreadable, little_memory, closed)

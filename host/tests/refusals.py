@@ -25,6 +25,10 @@ def as_frame(name):
     return f"convert '{name}[0]' -depth 8 ppm:OUT.ppm"
 
 
+def as_mask(name):
+    return f"convert '{name}[0]' -depth 8 pgm:OUT.pgm"
+
+
 def as_map(name):
     return f"convert '{name}[0]' -depth 16 pgm:OUT.pgm, then `raw` or `scaled`, whichever it holds"
 
@@ -74,6 +78,55 @@ def files():
         refused(["clear", "--", name, "fresh"], re.escape(name) + ": " + looks("a GIF file", as_frame("IN")))
     put("a\n\x1b[31mb\x9bc\x7f", b"GIF89a")
     refused(["clear", "a\n\x1b[31mb\x9bc\x7f", "fresh"], re.escape("a??[31mb??c?: ") + looks("a GIF file", as_frame("IN")))
+
+
+def bad_masks():
+    whole = pgm((3, 2), range(6), 255)
+    yield header("the file is empty"), b""
+    yield header("it does not begin with P5"), b"\1\1\1\1\1\1"
+    for data in (whole[:9], whole.replace(b"3 2", b"3,2"), whole.replace(b"255\n", b"255#\n")):
+        yield header("behind P5 stand width, height and maximum, 1 to 6 digits each, then one white byte"), data
+    yield header("it looks like a PPM file (P6), a frame"), ppm((3, 2), range(18))
+    yield from ((looks(name, as_mask("bad.pgm")), data) for name, data in FORMATS)
+    yield f"refused 1: {SIZE}; it is 0 by 2", pgm((0, 2), [], 65535)
+    yield f"refused 1: {SIZE}; it is 513 by 512; to scale it: pamscale -pixels 261500 bad.pgm >OUT", pgm((513, 512), [], 255)
+    for maximum in (1, 254, 256, 10000, 65535):
+        yield re.escape(f"refused 12: the maximum is not 255; it is {maximum}; to convert it: {as_mask('bad.pgm')}"), pgm((3, 2), [1] * 6, maximum)
+    for maximum in (0, 65536, 999999):
+        yield f"refused 12: the maximum is not 255; it is {maximum}", pgm((3, 2), [1] * 6, maximum)
+    yield "refused 13: " + LEFT % (6, "5 are there"), whole[:-1]
+    yield from (("refused 13: " + LEFT % (6, MORE % "bad.pgm"), data) for data in (whole + b"\0", whole + whole, whole.replace(b"255\n", b"255\r\n")))
+
+
+MASKED = (["clear", "frame.ppm", "fresh"], ["map", "frame.ppm", "fresh"], ["depth", "frame.ppm", "fresh"], ["light", "frame.ppm"], ["band", "frame.ppm", "0", "1"])
+
+
+def masks():
+    for why, data in bad_masks():
+        put("bad.pgm", data)
+        for words in MASKED:
+            refused([*words, "mask=bad.pgm"], "bad.pgm: " + why)
+    for size in ((2, 3), (6, 1), (3, 1), (4, 2)):
+        put("bad.pgm", pgm(size, [0] * (size[0] * size[1]), 255))
+        for words in MASKED:
+            refused([*words, "mask=bad.pgm", "s=31"], "bad.pgm: refused 4: the mask is %d by %d, the frame frame.ppm is 3 by 2" % size)
+    for words in MASKED:
+        refused([*words, "mask=none.pgm"], "none.pgm: cannot be read: No such file or directory")
+    put("bad.ppm", b"GIF89a")
+    put("bad.pgm", b"")     # of two bad files the frame is said
+    refused(["clear", "bad.ppm", "fresh", "mask=bad.pgm"], "bad.ppm: " + looks("a GIF file", as_frame("bad.ppm")))
+
+
+def nothing_seen():
+    """14 where the light has to be found, after a setting's 2; with a light that is given there is nothing to refuse."""
+    put("dark.pgm", pgm((3, 2), [0] * 6, 255))
+    for words in MASKED:
+        refused([*words, "mask=dark.pgm"], "dark.pgm: refused 14: no pixel of the mask is seen; 0 hides a pixel, any other byte shows it; without mask= all is seen")
+        refused([*words, "mask=dark.pgm", "t0=0"], "t0=0: refused 2: .*")
+    run = haze("light", "frame.ppm", "mask=-", text=False, input=pgm((3, 2), [0] * 6, 255))
+    check(run.returncode == 1 and run.stderr.startswith(b"haze: standard input: refused 14: "), run)
+    check(haze("band", "frame.ppm", "0", "2", "mask=dark.pgm", "light=1,2,3").stdout == "mean 1\nleast 1\n", "a light that is given, and nothing seen")
+    refused(["map", "frame.ppm", "fresh", "mask=dark.pgm", "light=1,0,3"], "light=1,0,3: refused 5: a channel of the light is 0")
 
 
 def maps():
@@ -188,9 +241,9 @@ def words():
         refused(["clear", "frame.ppm", "fresh", word], re.escape(word) + ": light takes three whole numbers, 1 to 255, parted by commas")
     for word in ("t=", "t=0.7", f"t={2**64}"):
         refused(["add", "frame.ppm", "fresh", word], re.escape(word) + ": t takes a whole number, 0 to 10000")
-    for word in ("s=7", "light=1,2,3", "map=m", "depth=d"):
+    for word in ("s=7", "light=1,2,3", "mask=m", "map=m", "depth=d"):
         refused(["clear", "frame.ppm", "fresh", word, "r=2", word], f"this setting stands twice: {word}")
-    for word in ("map=", "depth="):
+    for word in ("mask=", "map=", "depth="):
         refused(["clear", "frame.ppm", "fresh", word], f"{word}: {word[:-1]} takes the name of a file")
     refused(["light", "frame.ppm", "light=1,2,3"], NO_SETTING + "light=1,2,3")
     refused(["clear", "one.ppm", "frame.ppm", "fresh"], "this is a word more than it takes: fresh")
@@ -198,9 +251,9 @@ def words():
         refused(["band", *words], "this is no number of a row: .*")
 
 
-VALUES = {name: name + "=5" for name in (*NAMES, "t")} | {"light": "light=1,2,3", "map": "map=x", "depth=": "depth=x", "raw": "raw", "scaled": "scaled", "depth": "depth"}
-FRAMES = {*NAMES, "light"}
-TAKES = {"clear": FRAMES | {"map", "depth="}, "map": FRAMES, "depth": FRAMES, "light": set(NAMES), "band": FRAMES, "add": {"light", "t", "raw", "scaled"},
+VALUES = {name: name + "=5" for name in (*NAMES, "t")} | {"light": "light=1,2,3", "mask": "mask=x", "map": "map=x", "depth=": "depth=x", "raw": "raw", "scaled": "scaled", "depth": "depth"}
+FRAMES = {*NAMES, "light", "mask"}
+TAKES = {"clear": FRAMES | {"map", "depth="}, "map": FRAMES, "depth": FRAMES, "light": {*NAMES, "mask"}, "band": FRAMES, "add": {"light", "t", "raw", "scaled"},
          "view": {"raw", "scaled", "depth"}}
 
 
@@ -223,6 +276,8 @@ def words_together():
     refused(["add", "frame.ppm", "t=5000"], "t=5000 stands where OUT.ppm is wanted; .*")
     refused(["add", "t=5000"], "t=5000 stands where CLEAN.ppm is wanted; .*")
     refused(["add", "-", "-", "fresh"], "standard input can be read once, not twice")
+    for words in (["clear", "-", "fresh"], ["light", "-"], ["band", "-", "0", "1"]):
+        refused([*words, "mask=-"], "standard input can be read once, not twice")
     refused(["clear", "frame.ppm", "fresh", "map=fresh"], "fresh: cannot be written: two files of this run would go there")
     refused(["clear", "frame.ppm", "fresh", "map=one", "depth=./one"], "./one: cannot be written: two files of this run would go there")
     refused(["clear", "frame.ppm", "fresh", "map=fresh", "depth=two"], "fresh: cannot be written: two files of this run would go there")
@@ -242,8 +297,13 @@ def lost():
                   ["add", "frame.ppm", "map.pgm", "map.pgm"]):
         name = words[2] if words[0] == "add" else words[1]
         refused(words, name + ": would be lost, since it is read and something else is written to it")
-    Path("hard.ppm").unlink()
-    Path("soft.pgm").unlink()
+    put("mask.pgm", pgm((3, 2), [1] * 6, 255))
+    os.link("mask.pgm", "hard.pgm")
+    for words in (["clear", "frame.ppm", "mask.pgm"], ["map", "frame.ppm", "hard.pgm"], ["depth", "frame.ppm", "./mask.pgm"],
+                  ["clear", "frame.ppm", "fresh", "map=hard.pgm"], ["clear", "frame.ppm", "fresh", "depth=mask.pgm"]):
+        refused([*words, "mask=mask.pgm"], "mask.pgm: would be lost, since it is read and something else is written to it")
+    for name in ("hard.ppm", "soft.pgm", "mask.pgm", "hard.pgm"):
+        Path(name).unlink()
 
 
 def several():
@@ -272,10 +332,13 @@ def several():
     refused(["clear", "-o", "frame.ppm", "a/frame.ppm"], "frame.ppm: is no folder to write to")
     refused(["clear", "-o", "to", "frame.ppm", "s=31"], "s=31: refused 2: .*")
     refused(["clear", "-o", "to", "frame.ppm", "light=0,1,1"], "light=0,1,1: refused 5: .*")
+    for data, number in ((b"x", 11), (pgm((3, 2), [0] * 6, 255), 14)):      # refused for every frame, so it is said once
+        put("mask.pgm", data)
+        refused(["clear", "-o", "to", "frame.ppm", "b.ppm", "mask=mask.pgm"], f"mask.pgm: refused {number}: .*")
 
 
 def frame():
     put("frame.ppm", ppm((3, 2), range(100, 118)))
 
 
-ALL = (frame, files, maps, maps_of_others, settings, words, kinds, words_together, lost, several)
+ALL = (frame, files, masks, nothing_seen, maps, maps_of_others, settings, words, kinds, words_together, lost, several)

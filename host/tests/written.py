@@ -3,6 +3,7 @@
 import fcntl
 import os
 import pty
+import random
 import re
 import resource
 import stat
@@ -68,6 +69,84 @@ def frames():
     written((1, 1), rules.DEFAULTS, [])
     # at the limit of pixels; radii of 0, since the second program sums each window anew
     written((512, 512), (0, 0, 9500, 59, 1000, 1), ["s=0", "r=0"])
+
+
+def masks_of(size):
+    """By name: a hood, a border, stripes, single pixels, by chance with any bytes; all hidden is for a light that is given."""
+    W, H = size
+    draw, places = random.Random(repr(size)), [(x, y) for y in range(H) for x in range(W)]
+    yield "hood", [255 * (y < 2 * H // 3) for x, y in places]
+    yield "border", [2 * (0 < x < W - 1 and 0 < y < H - 1) for x, y in places]
+    yield "rows", [y % 3 % 2 for x, y in places]
+    yield "columns", [128 * (x % 4 > 1) for x, y in places]
+    yield "one", [(x, y) == (W // 2, H // 2) for x, y in places]
+    yield "chance", [draw.choice((0, 0, 1, 2, 128, 255, draw.randrange(256))) for _ in places]
+
+
+def under_mask(size, settings, words, frame, mask):
+    """The five commands under a mask."""
+    map, picture = cleared(size, frame, settings, None, mask)
+    put("mask.pgm", pgm(size, mask, 255))
+    words = [*words, "mask=mask.pgm"]
+    files = ("out.ppm", ppm(size, picture)), ("out.pgm", pgm(size, map)), ("depth.pgm", pgm(size, depths_of(size, map), 918))
+    for command, file in zip(("clear", "map", "depth"), files):
+        done([command, "in.ppm", file[0], *words], file)
+    done(["clear", "in.ppm", "out.ppm", *words[::-1], "map=out.pgm", "depth=depth.pgm"], *files)
+    printed(["light", "in.ppm", *words], "%d,%d,%d\n" % light_of(size, frame, settings, mask))
+    bands(size, map, words)
+    check(all(map[i] == 10000 and picture[3 * i:3 * i + 3] == frame[3 * i:3 * i + 3] for i, m in enumerate(mask) if not m), "the second program does not copy")
+
+
+def masks():
+    for size, settings in (((21, 15), (2, 3, 9500, 59, 1000, 100)), ((40, 26), rules.DEFAULTS), ((1, 30), (1, 1, 9500, 59, 1000, 1))):
+        frame = hazy(size, ("masks", size))
+        put("in.ppm", ppm(size, frame))
+        for name, mask in masks_of(size):
+            if any(mask):
+                under_mask(size, settings, words_of(settings), frame, mask)
+
+
+def ends_of_masks():
+    """All seen is as without a mask, by whatever bytes; under a mask that hides all the frame is copied, where the light is given; a mask has a header as any
+    file, and may come by standard input."""
+    size = (16, 12)
+    frame = hazy(size, "ends")
+    map, picture = cleared(size, frame)
+    put("in.ppm", ppm(size, frame))
+    for byte in (1, 2, 128, 255):
+        put("mask.pgm", pgm(size, [byte] * 192, 255))
+        done(["clear", "in.ppm", "out.ppm", "mask=mask.pgm", "map=out.pgm"], ("out.ppm", ppm(size, picture)), ("out.pgm", pgm(size, map)))
+    put("mask.pgm", pgm(size, [0] * 192, 255))
+    done(["clear", "in.ppm", "out.ppm", "mask=mask.pgm", "map=out.pgm", "depth=depth.pgm", "light=200,210,220"],
+         ("out.ppm", ppm(size, frame)), ("out.pgm", pgm(size, [10000] * 192)), ("depth.pgm", pgm(size, [0] * 192, 918)))
+    mask = [k % 5 for k in range(192)]
+    picture = ppm(size, cleared(size, frame, mask=mask)[1])
+    put("mask.pgm", b"P5#a hood\n16\t012 #\r255 " + bytes(mask))
+    done(["clear", "in.ppm", "out.ppm", "mask=mask.pgm"], ("out.ppm", picture))
+    run = haze("clear", "in.ppm", "-", "mask=-", text=False, input=pgm(size, mask, 255))
+    check((run.returncode, run.stdout, run.stderr) == (0, picture, b""), run.returncode, run.stderr)
+    run = haze("clear", "-", "-", "mask=mask.pgm", text=False, input=ppm(size, frame))
+    check((run.returncode, run.stdout, run.stderr) == (0, picture, b""), run.returncode, run.stderr)
+
+
+def one_mask_for_several():
+    """With -o one mask is that of every frame, read once, by standard input too. A frame of another size fails alone."""
+    size = (16, 12)
+    mask = [k % 3 for k in range(192)]
+    frames = {name: hazy(size, ("mask", name)) for name in ("e.ppm", "f.ppm")}
+    for folder in ("masked", "sources"):
+        Path(folder).mkdir()
+    names = [put("sources/" + name, ppm(size, frame)) for name, frame in frames.items()]
+    wanted = [("masked/" + name, ppm(size, cleared(size, frame, mask=mask)[1])) for name, frame in frames.items()]
+    put("mask.pgm", pgm(size, mask, 255))
+    done(["clear", "-o", "masked", *names, "mask=mask.pgm"], *wanted)
+    for name, _ in wanted:
+        Path(name).unlink()
+    put("sources/other.ppm", ppm((12, 16), frames["e.ppm"]))
+    run = haze("clear", "-o", "masked", names[0], "sources/other.ppm", names[1], "mask=-", text=False, input=pgm(size, mask, 255))
+    check(run.returncode == 1 and run.stderr == b"haze: standard input: refused 4: the mask is 16 by 12, the frame sources/other.ppm is 12 by 16\n"
+          b"haze: 1 of 3 frames failed\n", run)
+    check(all(Path(name).read_bytes() == data for name, data in wanted) and not Path("masked/other.ppm").exists(), "the others under one mask")
 
 
 def standard_files():
@@ -225,4 +304,4 @@ def kept_modes():
         Path("new.pgm").unlink()
 
 
-ALL = (frames, standard_files, maps_of_others, names_of_words, spoken, several, very_many, same_names, kept_modes)
+ALL = (frames, masks, ends_of_masks, one_mask_for_several, standard_files, maps_of_others, names_of_words, spoken, several, very_many, same_names, kept_modes)

@@ -1,6 +1,7 @@
 #include "clearing.h"
 #include <stdio.h>
 #include <stdlib.h>
+#include <string.h>
 #include <time.h>
 #include "memory.h"
 #include "refusals.h"
@@ -28,12 +29,27 @@ int refuse_light(const words *w)
     return refuse(what, HAZE_BAD_LIGHT, "%s", "");
 }
 
-/* A number of the library about what the words gave. The frame and all that is lent are as they have to be, so there is no other than these two. */
+/* A number of the library about what the words gave. The frame and all that is lent are as they have to be, so there is no other than these three. */
 static int refuse_words(const words *w, uint8_t number)
 {
     if (number == HAZE_BAD_SETTING) refuse_settings(w);
+    else if (number == HAZE_NOTHING_SEEN) refuse(input_name(w->mask), number, "; 0 hides a pixel, any other byte shows it; without mask= all is seen");
     else refuse_light(w);
     return WRONG_WORDS;
+}
+
+/* The mask of the run, read once: with -o it is that of all frames. */
+static mask of_run;
+
+/* One that is refused for itself would be so for every other frame too. */
+static int find_mask(clearing *c, const words *w)
+{
+    c->seen = new_mask(c->in.w, c->in.h);
+    if (!w->mask) return DONE;
+    if (!of_run.bytes && read_mask(w->mask, &of_run)) return WRONG_WORDS;
+    if (of_run.w != c->in.w || of_run.h != c->in.h) return refuse_shape("mask", w->mask, of_run.w, of_run.h, c->path, &c->in);
+    memcpy(c->seen.bytes, of_run.bytes, of_run.length);
+    return DONE;
 }
 
 static int find_light(clearing *c, const words *w)
@@ -44,7 +60,7 @@ static int find_light(clearing *c, const words *w)
     c->lights.light = w->light;
     if (w->given[LIGHT]) return DONE;
     work = memory(room * sizeof *work);
-    number = haze_light(c->in.w, c->in.h, &w->settings, c->in.bytes, c->in.length, work, room, &c->lights);
+    number = haze_light(c->in.w, c->in.h, &w->settings, c->seen.bytes, c->seen.length, c->in.bytes, c->in.length, work, room, &c->lights);
     free(work);
     return number ? refuse_words(w, number) : DONE;
 }
@@ -53,9 +69,11 @@ int begin_clearing(clearing *c, const char *path, const words *w)
 {
     int how;
     *c = (clearing){.path = path, .last = now()};
+    if (w->mask && is_standard(w->mask) && is_standard(path)) return say("standard input can be read once, not twice");
     if (read_frame(path, &c->in)) return FAILED;
+    how = find_mask(c, w);
     c->reading = step(c);
-    how = find_light(c, w);
+    if (!how) how = find_light(c, w);
     c->finding = step(c);
     return how;
 }
@@ -67,8 +85,8 @@ int clear_frame(clearing *c, const words *w)
     uint8_t number;
     c->picture = new_frame(c->in.w, c->in.h);
     c->through = new_map(c->in.w, c->in.h);
-    number = haze_clear(c->in.w, c->in.h, &w->settings, &c->lights, c->in.bytes, c->in.length, c->through.entries, c->through.count,
-                        c->picture.bytes, c->picture.length, work, room);
+    number = haze_clear(c->in.w, c->in.h, &w->settings, &c->lights, c->seen.bytes, c->seen.length, c->in.bytes, c->in.length, c->through.entries,
+                        c->through.count, c->picture.bytes, c->picture.length, work, room);
     free(work);
     c->clearing = step(c);
     return number ? refuse_words(w, number) : DONE;
@@ -77,6 +95,7 @@ int clear_frame(clearing *c, const words *w)
 void free_clearing(clearing *c)
 {
     free(c->in.bytes);
+    free(c->seen.bytes);
     free(c->picture.bytes);
     free(c->through.entries);
 }

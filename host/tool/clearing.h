@@ -1,4 +1,4 @@
-/* A frame and what is worked out of it: light, map and cleared picture. */
+/* A frame, its mask, and what is worked out of them: light, map and cleared picture. */
 #ifndef CLEARING_H
 #define CLEARING_H
 #include "frames.h"
@@ -11,12 +11,14 @@ enum { DONE, FAILED, WRONG_WORDS };
 typedef struct {
     const char *path;
     frame in, picture;
+    mask seen; /* of the frame's size */
     map through;
     struct haze_lights lights;
     double reading, finding, clearing, last; /* milliseconds; and when the last step ended */
 } clearing;
 
-/* The frame is read and its light found, or taken from the words. What was made is to be freed, however it went. */
+/* The frame is read and its light found, or taken from the words; its mask is that of the words, or shows every pixel. What was made is to be
+ * freed, however it went. */
 int begin_clearing(clearing *c, const char *path, const words *w);
 
 /* Then it is cleared. */

@@ -43,10 +43,10 @@ static int write_cleared(const clearing *c, const char *picture, const char *thr
     return write_outputs(outputs, count);
 }
 
-/* An output of another kind than the input would take its place for ever. */
+/* An output of another kind than the input would take its place for ever. Where there is no input or no output, nothing can be lost. */
 static int lost(const char *in, const char *out)
 {
-    if (!out || !is_same_file(in, out)) return DONE;
+    if (!in || !out || !is_same_file(in, out)) return DONE;
     return say("%s: would be lost, since it is read and something else is written to it", in);
 }
 
@@ -54,7 +54,7 @@ static int clear_one(const words *w, const char *in, const char *picture, const 
 {
     clearing c;
     int how;
-    if (lost(in, through) || lost(in, depth)) return FAILED;
+    if (lost(in, through) || lost(in, depth) || lost(w->mask, picture) || lost(w->mask, through) || lost(w->mask, depth)) return FAILED;
     how = begin_clearing(&c, in, w);
     if (!how) how = clear_frame(&c, w);
     if (!how) how = write_cleared(&c, picture, through, depth);
@@ -174,10 +174,7 @@ static int add_haze(const words *w, const clearing *c, const map *m)
 
 static int same_shape(const words *w, const frame *f, const map *m)
 {
-    if (m->w == f->w && m->h == f->h) return 1;
-    say("%s: refused %d: the map is %d by %d, the frame %s is %d by %d", input_name(w->files[1]), HAZE_BAD_BUFFER, (int)m->w, (int)m->h,
-        input_name(w->files[0]), (int)f->w, (int)f->h);
-    return 0;
+    return (m->w == f->w && m->h == f->h) || !refuse_shape("map", w->files[1], m->w, m->h, w->files[0], f);
 }
 
 /* The map of the words. It is to be freed, however it goes. */

@@ -18,6 +18,12 @@ map new_map(uint64_t w, uint64_t h)
     return (map){w, h, memory(count * sizeof(uint16_t)), count};
 }
 
+mask new_mask(uint64_t w, uint64_t h)
+{
+    size_t length = (size_t)w * (size_t)h;
+    return (mask){w, h, memset(memory(length), 1, length), length};
+}
+
 /* ---- frames */
 
 /* The number for the whole file. Where header, size or maximum is refused, no byte behind the header can change it, and none is read. */
@@ -58,7 +64,7 @@ content frame_file(const frame *f)
     return file;
 }
 
-/* ---- maps and depths */
+/* ---- masks, maps and depths */
 
 /* A sample has two bytes, the high one first, from the maximum 256 on. */
 static size_t sample_bytes(const netpbm *n) { return n->maximum < 256 ? 1 : 2; }
@@ -74,11 +80,11 @@ static int good_maximum(const netpbm *n, taking how, uint64_t *top)
 }
 
 /* As a PPM file is judged: 11, 1, 12, 13. */
-static int judge_numbers(netpbm *n, taking how, uint64_t *top, uint8_t *number)
+static int judge_numbers(netpbm *n, int has_good_maximum, uint8_t *number)
 {
     *number = n->number;
     if (!*number && !haze_ppm_length(n->w, n->h)) *number = HAZE_BAD_SIZE;
-    if (!*number && !good_maximum(n, how, top)) *number = HAZE_BAD_MAXIMUM;
+    if (!*number && !has_good_maximum) *number = HAZE_BAD_MAXIMUM;
     if (*number) return 0;
     if (read_samples(n, samples_length(n))) return 1;
     if (n->length - n->start != samples_length(n)) *number = HAZE_BAD_LENGTH;
@@ -105,7 +111,7 @@ static int take_numbers(netpbm *n, taking how, uint64_t *top, map *m)
 {
     uint8_t number;
     uint64_t wanted = *top;
-    if (judge_numbers(n, how, top, &number)) return 1;
+    if (judge_numbers(n, good_maximum(n, how, top), &number)) return 1;
     if (number) return refuse_numbers(n, number, how, wanted, samples_length(n));
     *m = new_map(n->w, n->h);
     take_samples(n, how, *top, m);
@@ -124,6 +130,24 @@ int read_map(const char *path, taking how, map *m)
 {
     uint64_t top = ALL_THROUGH;
     return read_numbers(path, how, &top, m);
+}
+
+static int take_mask(netpbm *n, mask *m)
+{
+    uint8_t number;
+    if (judge_numbers(n, n->maximum == BYTES_MOST, &number)) return 1;
+    if (number) return refuse_mask(n, number, samples_length(n));
+    *m = new_mask(n->w, n->h);
+    memcpy(m->bytes, n->bytes + n->start, m->length);
+    return 0;
+}
+
+int read_mask(const char *path, mask *m)
+{
+    netpbm n;
+    int failed = open_netpbm(&n, path, '5') || take_mask(&n, m);
+    close_netpbm(&n);
+    return failed;
 }
 
 content map_file(const map *m, uint64_t maximum)

@@ -107,17 +107,28 @@ static int bad_length(const netpbm *n, size_t samples)
     return refuse(what, HAZE_BAD_LENGTH, "; the header announces %d bytes of them, and %d are there", (int)samples, (int)there);
 }
 
-/* ---- frames and maps */
+/* ---- frames, masks and maps */
 
-int refuse_frame(const netpbm *n, uint8_t number, size_t pixels)
+/* A file with a byte a sample, of this kind and with this ending. */
+static int refuse_bytes(const netpbm *n, char kind, const char *ending, uint8_t number, size_t samples)
 {
     char convert[MORE_ROOM];
-    snprintf(convert, sizeof convert, "convert '%s[0]' -depth 8 ppm:OUT.ppm", typed(n));
-    if (number == HAZE_BAD_HEADER) return bad_header(n, '6', convert);
+    snprintf(convert, sizeof convert, "convert '%s[0]' -depth 8 %s:OUT.%s", typed(n), ending, ending);
+    if (number == HAZE_BAD_HEADER) return bad_header(n, kind, convert);
     if (number == HAZE_BAD_SIZE) return bad_size(n);
-    if (number == HAZE_BAD_LENGTH) return bad_length(n, pixels);
+    if (number == HAZE_BAD_LENGTH) return bad_length(n, samples);
     if (n->maximum < 1 || n->maximum > UINT16_MAX) return refuse(input_name(n->path), number, "; it is %d", (int)n->maximum);
     return refuse(input_name(n->path), number, "; it is %d; to convert it: %s", (int)n->maximum, convert);
+}
+
+int refuse_frame(const netpbm *n, uint8_t number, size_t pixels) { return refuse_bytes(n, '6', "ppm", number, pixels); }
+
+int refuse_mask(const netpbm *n, uint8_t number, size_t samples) { return refuse_bytes(n, '5', "pgm", number, samples); }
+
+int refuse_shape(const char *word, const char *path, uint64_t w, uint64_t h, const char *of, const frame *f)
+{
+    return say("%s: refused %d: the %s is %d by %d, the frame %s is %d by %d", input_name(path), HAZE_BAD_BUFFER, word, (int)w, (int)h, input_name(of), (int)f->w,
+               (int)f->h);
 }
 
 /* Which maximum is wanted, of maps or of depths, or either where it is 0. */

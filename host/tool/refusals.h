@@ -12,6 +12,12 @@ int refuse(const char *what, uint8_t number, const char *format, ...) __attribut
 /* A file that should be a frame, of which the pixels take so many bytes. */
 int refuse_frame(const netpbm *n, uint8_t number, size_t pixels);
 
+/* A file that should be a mask. */
+int refuse_mask(const netpbm *n, uint8_t number, size_t samples);
+
+/* A mask or a map, as the word says, of another size than its frame. */
+int refuse_shape(const char *word, const char *path, uint64_t w, uint64_t h, const char *of, const frame *f);
+
 /* A file that should be a map, or depths, whose maximum should be this, or either where it is 0. */
 int refuse_numbers(const netpbm *n, uint8_t number, taking how, uint64_t maximum, size_t samples);
 #endif

@@ -6,7 +6,7 @@
 #include "refusals.h"
 #include "say.h"
 
-static const char *const kinds[KINDS] = {"s=", "r=", "omega=", "e=", "t0=", "share=", "light=", "map=", "depth=", "t=", "raw", "scaled", "depth"};
+static const char *const kinds[KINDS] = {"s=", "r=", "omega=", "e=", "t0=", "share=", "light=", "mask=", "map=", "depth=", "t=", "raw", "scaled", "depth"};
 
 int wrong_use(const char *name, const char *what, const char *word)
 {
@@ -63,17 +63,17 @@ static uint64_t *place(struct haze_settings *k, int kind)
 
 /* What a word takes, for messages. Whether a value is refused is asked of the library. */
 static const char *const ranges[BARE] = {"0 to 30", "0 to 60", "1 to 10000", "1 to 585225", "1 to 10000", "1 to 1000", "three whole numbers, 1 to 255, parted by commas",
-                                         "the name of a file", "the name of a file", "a whole number, 0 to 10000"};
+                                         "the name of a file", "the name of a file", "the name of a file", "a whole number, 0 to 10000"};
 
 /* Whether it is this setting that is refused: by itself, among the usual ones. */
 static int is_refused(int kind, uint64_t value)
 {
     struct haze_settings k = HAZE_SETTINGS_DEFAULT;
-    const uint8_t black[3] = {0, 0, 0};
+    const uint8_t black[3] = {0, 0, 0}, seen[1] = {1};
     int64_t work[HAZE_WORK(1, 1)];
     struct haze_lights lights;
     *place(&k, kind) = value;
-    return haze_light(1, 1, &k, black, sizeof black, work, HAZE_WORK(1, 1), &lights) == HAZE_BAD_SETTING;
+    return haze_light(1, 1, &k, seen, sizeof seen, black, sizeof black, work, HAZE_WORK(1, 1), &lights) == HAZE_BAD_SETTING;
 }
 
 int refuse_settings(const words *w)
@@ -115,6 +115,7 @@ static int take_value(words *w, int kind, const char *text)
     if (kind < SETTINGS) return number_in(text, place(&w->settings, kind));
     if (kind == LIGHT) return light_in(text, &w->light);
     if (kind == T) return number_in(text, &w->t);
+    if (kind == MASK) w->mask = text;
     if (kind == MAP) w->map = text;
     if (kind == DEPTH) w->depth = text;
     return kind >= BARE || *text;

@@ -7,10 +7,10 @@
 #include "haze.h"
 
 /* The words that are no files: the six settings, in the order of struct haze_settings; others with a value; some without; and two options, -v and -o. */
-enum { S, R, OMEGA, E, T0, SHARE, SETTINGS, LIGHT = SETTINGS, MAP, DEPTH, T, BARE, IS_RAW = BARE, IS_SCALED, IS_DEPTH, KINDS, TIMES = KINDS, FOLDER };
+enum { S, R, OMEGA, E, T0, SHARE, SETTINGS, LIGHT = SETTINGS, MASK, MAP, DEPTH, T, BARE, IS_RAW = BARE, IS_SCALED, IS_DEPTH, KINDS, TIMES = KINDS, FOLDER };
 
 #define TAKES(kind) (1u << (kind))
-#define TAKES_SETTINGS (TAKES(SETTINGS) - 1 + TAKES(LIGHT) + TAKES(TIMES)) /* what a command takes that clears a frame */
+#define TAKES_SETTINGS (TAKES(SETTINGS) - 1 + TAKES(LIGHT) + TAKES(MASK) + TAKES(TIMES)) /* what a command takes that clears a frame */
 
 typedef struct {
     char **files;
@@ -19,7 +19,7 @@ typedef struct {
     int times;           /* whether -v asks for light and times */
     struct haze_settings settings;
     struct haze_rgb light;
-    const char *map, *depth;
+    const char *mask, *map, *depth;
     uint64_t t;
     int given[KINDS];
 } words;

@@ -32,8 +32,8 @@ abbrev pub figureIn : Float → Float → Figure
 figureIn mean least = record { mean = mean; least = least }
 
 -- size, settings and light together
-abbrev pub setupIn : ℕ → ℕ → List ℕ → List ℕ → Setup
-setupIn w h settings lights = handed (size w h) (settingsIn settings) (rgbIn lights)
+abbrev pub setupIn : ℕ → ℕ → List ℕ → List ℕ → List ℕ → Setup
+setupIn w h settings lights mask = handed (size w h) (settingsIn settings) (rgbIn lights) mask
 
 -- ---- places for results
 

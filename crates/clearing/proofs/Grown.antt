@@ -119,6 +119,6 @@ module _ (z : Shape) (c : Rect) (i : GoodRect z c) where
     grown-bytes new old = bytes-cong z _ _ (λ v u hv hu. patch-test (near 0 o) (near q c) new old v u (test-is v u hv hu))
 
 -- a frame of the same length is given as well
-pub given-after : (z : Shape) (k : Settings) (a : Rgb) (frame frame′ : List ℕ) → length frame′ ≡ length frame → Given z z 0 0 k a frame → Given z z 0 0 k a frame′
-given-after z k a frame frame′ e g =
-    record { size = g .size; settings = g .settings; light = g .light; bytes = e ∙ g .bytes; fits = g .fits; across = g .across; down = g .down }
+pub given-after : (z : Shape) (k : Settings) (a : Rgb) (mask frame frame′ : List ℕ) → length frame′ ≡ length frame → Given z z 0 0 k a mask frame → Given z z 0 0 k a mask frame′
+given-after z k a mask frame frame′ e g =
+    record { size = g .size; settings = g .settings; light = g .light; shown = g .shown; bytes = e ∙ g .bytes; fits = g .fits; across = g .across; down = g .down }

@@ -5,14 +5,14 @@ ghost use Prim.Native.Nat.{_+_, _*_, _≤_};
 ghost use lib.ListN.{length, getD};
 ghost use Rattle.rules.specs.Shape.{described, room};
 ghost use Rattle.rules.specs.Transmission.{fit as lined};
-ghost use Rattle.rules.specs.Buffers.{pixels, mapOf, pictureOf, mapWith, frameWith, near, pasted};
+ghost use Rattle.rules.specs.Buffers.{shownBy, mapOf, pictureOf, mapWith, frameWith, near, pasted};
 ghost use Rattle.rules.specs.Box.{part};
 ghost use Rattle.rules.specs.Good.{GoodRect};
 ghost use Rattle.rules.specs.Setup.{handed};
 ghost use Rattle.rules.specs.Promise.{wiped, lentOf, afterClear, afterReplace};
 ghost use Rattle.planes.specs.View.{InPlane, boxOf};
 ghost use Rattle.planes.specs.Cells.{SameFrom};
-ghost use Rattle.planes.specs.Stage.{Given, GivenView, Lined, shown};
+ghost use Rattle.planes.specs.Stage.{Given, GivenView, Lined, boxSeen, boxPixels};
 ghost use Rattle.writer.specs.Run.{Run};
 ghost use Rattle.clearing.specs.Call.{Loan, Inside, Nested, grownRect, inView, viewOf};
 use coarse::prepare;
@@ -107,15 +107,16 @@ fn paste(frame: &mut [u8], z: Size, c: Rect, new: &[u8])
 // ---- the passes
 
 // The lines of the view p of the box that the view v shows: behind the box's samples, in a work area that may hold anything.
-pub fn lines(work: &mut [i64], frame: &[u8], v: View, p: View, k: Settings, a: Rgb)
-    requires { ⌜ GivenView v k a (now frame) × InPlane p × (p .w ≡ v .wide) × (p .h ≡ v .tall) ⌝ }
+pub fn lines(work: &mut [i64], mask: &[u8], frame: &[u8], v: View, p: View, k: Settings, a: Rgb)
+    requires { ⌜ GivenView v k a (now mask) (now frame) × InPlane p × (p .w ≡ v .wide) × (p .h ≡ v .tall) ⌝ }
     requires { ⌜ 2 * (v .wide * v .tall) + 2 * (p .wide * p .tall) ≤ length (now work) ⌝ }
     ensures lines { λ _. ⌜ Lined (now (work .exit)) (2 * (v .wide * v .tall)) (p .wide) (p .tall)
-        (part (p .top) (p .left) (lined (boxOf v) k a (shown v (now (frame .entry))))) ⌝ }
+        (part (p .top) (p .left) (boxSeen v (now (mask .entry))))
+        (part (p .top) (p .left) (lined (boxOf v) k a (boxPixels v (now (mask .entry)) (now (frame .entry))))) ⌝ }
     ensures rest { λ _. ⌜ SameFrom (now (work .entry)) (now (work .exit)) (2 * (v .wide * v .tall) + 2 * (p .wide * p .tall)) ⌝ }
 {
-    prepare(work, frame, v, k, a);
-    fit(work, p, k.r, k.e);
+    prepare(work, mask, frame, v, k, a);
+    fit(work, mask, v, p, k.r, k.e);
 }
 
 // The rectangle o of map and picture, by way of the lines of the rectangle p and the box f, as a clearing of the whole frame has it. The work area may hold
@@ -123,6 +124,7 @@ pub fn lines(work: &mut [i64], frame: &[u8], v: View, p: View, k: Settings, a: R
 fn refresh(
     map: &mut [u16],
     picture: &mut [u8],
+    mask: &[u8],
     frame: &[u8],
     work: &mut [i64],
     z: Size,
@@ -132,20 +134,22 @@ fn refresh(
     p: Rect,
     o: Rect,
 )
-    requires { ⌜ Given (described z) (described z) 0 0 k a (now frame) × Nested (described z) k f p o ⌝ }
+    requires { ⌜ Given (described z) (described z) 0 0 k a (now mask) (now frame) × Nested (described z) k f p o ⌝ }
     requires { ⌜ Loan (described z) (now map) (now picture) (now work) ⌝ }
-    ensures map { λ _. ⌜ now (map .exit) ≡ mapWith (described z) (near 0 o) (mapOf (handed z k a) (pixels (described z) (now (frame .entry)))) (now (map .entry)) ⌝ }
-    ensures picture { λ _. ⌜ now (picture .exit) ≡ frameWith (described z) (near 0 o) (pictureOf (handed z k a) (pixels (described z) (now (frame .entry)))) (now (picture .entry)) ⌝ }
+    ensures map { λ _. ⌜ now (map .exit) ≡ mapWith (described z) (near 0 o) (mapOf (handed z k a (now (mask .entry))) (shownBy (handed z k a (now (mask .entry))) (now (frame .entry)))) (now (map .entry)) ⌝ }
+    ensures picture { λ _. ⌜ now (picture .exit) ≡ frameWith (described z) (near 0 o) (pictureOf (handed z k a (now (mask .entry))) (shownBy (handed z k a (now (mask .entry))) (now (frame .entry)))) (now (picture .entry)) ⌝ }
     ensures work { λ _. ⌜ now (work .exit) ≡ wiped (described z) (now (work .entry)) ⌝ }
 {
     let to = view(z, o);
-    lines(work, frame, view(z, f), within(f, p), k, a);
+    lines(work, mask, frame, view(z, f), within(f, p), k, a);
     write_map(
         map,
+        mask,
         frame,
         to,
         &work[..],
         2 * (f.w * f.h),
+        view(z, p),
         within(p, o),
         k.r,
     );
@@ -157,16 +161,17 @@ fn refresh(
 pub fn clear_whole(
     map: &mut [u16],
     picture: &mut [u8],
+    mask: &[u8],
     frame: &[u8],
     work: &mut [i64],
     z: Size,
     k: Settings,
     a: Rgb,
 )
-    requires { ⌜ Given (described z) (described z) 0 0 k a (now frame) ⌝ }
+    requires { ⌜ Given (described z) (described z) 0 0 k a (now mask) (now frame) ⌝ }
     requires { ⌜ Loan (described z) (now map) (now picture) (now work) ⌝ }
     ensures { λ _. ⌜ lentOf (now (frame .entry)) (now (map .exit)) (now (picture .exit)) (now (work .exit))
-        ≡ afterClear (handed z k a) (lentOf (now (frame .entry)) (now (map .entry)) (now (picture .entry)) (now (work .entry))) ⌝ }
+        ≡ afterClear (handed z k a (now (mask .entry))) (lentOf (now (frame .entry)) (now (map .entry)) (now (picture .entry)) (now (work .entry))) ⌝ }
 {
     let o = Rect {
         x: 0,
@@ -174,11 +179,12 @@ pub fn clear_whole(
         w: z.w,
         h: z.h,
     };
-    refresh(map, picture, frame, work, z, k, a, o, o, o);
+    refresh(map, picture, mask, frame, work, z, k, a, o, o, o);
 }
 
 // Replace, of a call that is not refused: the rectangle of the new pixels grown by the reach, by that and the radius of the filter, and by twice the reach.
 pub fn replace_whole(
+    mask: &[u8],
     frame: &mut [u8],
     map: &mut [u16],
     picture: &mut [u8],
@@ -189,11 +195,11 @@ pub fn replace_whole(
     c: Rect,
     new: &[u8],
 )
-    requires { ⌜ Given (described z) (described z) 0 0 k a (now frame) ⌝ }
+    requires { ⌜ Given (described z) (described z) 0 0 k a (now mask) (now frame) ⌝ }
     requires { ⌜ Loan (described z) (now map) (now picture) (now work) ⌝ }
     requires { ⌜ GoodRect (described z) c × (length (now new) ≡ 3 * (c .w * c .h)) ⌝ }
     ensures { λ _. ⌜ lentOf (now (frame .exit)) (now (map .exit)) (now (picture .exit)) (now (work .exit))
-        ≡ afterReplace (handed z k a) c (now (new .entry))
+        ≡ afterReplace (handed z k a (now (mask .entry))) c (now (new .entry))
         (lentOf (now (frame .entry)) (now (map .entry)) (now (picture .entry)) (now (work .entry))) ⌝ }
 {
     paste(frame, z, c, new);
@@ -201,5 +207,5 @@ pub fn replace_whole(
     let f = grow(z, c, 2 * q);
     let p = grow(z, c, q + k.r);
     let o = grow(z, c, q);
-    refresh(map, picture, frame, work, z, k, a, f, p, o);
+    refresh(map, picture, mask, frame, work, z, k, a, f, p, o);
 }

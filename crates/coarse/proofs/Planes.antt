@@ -6,14 +6,14 @@ use native.Mathlib.Nat.{mul-le-mul-right}
 use native.Mathlib.Omega.{arith}
 use native.Mathlib.Decide.{decLt}
 use lib.IntN.{ℤ, pos}
-use Rattle.rules.specs.Window.{Plane}
+use Rattle.rules.specs.Window.{Plane, Shown}
 use Rattle.rules.specs.Transmission.{Sample}
 use Rattle.planes.specs.Cells.{cells}
 use Rattle.planes.proofs.Shown.{row-end}
-use Rattle.planes.specs.Stage.{productWord, squareWord}
+use Rattle.planes.specs.Stage.{wordOf, productWord, squareWord}
 use Rattle.coarse.specs.Rows.{SamplesPut, SampledTo}
 
-module _ (w h : ℕ) (S : Plane Sample) (l : List ℤ) where
+module _ (w h : ℕ) (S : Plane (Shown Sample)) (l : List ℤ) where
   pub sampled-none : SampledTo l l w h S 0
   sampled-none = record { products = λ y x p q. absurd (omega arith); squares = λ y x p q. absurd (omega arith); rest = record { same = λ i p. refl } }
 
@@ -26,7 +26,7 @@ module _ (w h : ℕ) (S : Plane Sample) (l : List ℤ) where
         rest = record { same = λ i p. put .kept i (λ s t. omega (arith, row-end w h n low)) (λ s t. omega (arith, row-end w h n low)) ∙ was .rest .same i p };
       }
     where
-      product : (y x : ℕ) → y < n + 1 → x < w → Dec (y < n) → cells m′ 0 w y x ≡ pos (productWord (S y x))
+      product : (y x : ℕ) → y < n + 1 → x < w → Dec (y < n) → cells m′ 0 w y x ≡ pos (wordOf productWord (S y x))
       product y x p q (yes j) =
           let b : (y + 1) * w ≤ n * w = mul-le-mul-right w (omega arith) in
           put .kept (0 + (y * w + x)) (λ s t. omega arith) (λ s t. omega (arith, row-end w h y (omega arith))) ∙ was .products y x j q
@@ -35,7 +35,7 @@ module _ (w h : ℕ) (S : Plane Sample) (l : List ℤ) where
           let e : 0 + (n * w + x) ≡ n * w + x = omega arith in
           rw (k, e) (put .products x q)
 
-      square : (y x : ℕ) → y < n + 1 → x < w → Dec (y < n) → cells m′ (w * h) w y x ≡ pos (squareWord (S y x))
+      square : (y x : ℕ) → y < n + 1 → x < w → Dec (y < n) → cells m′ (w * h) w y x ≡ pos (wordOf squareWord (S y x))
       square y x p q (yes j) =
           let b : (y + 1) * w ≤ n * w = mul-le-mul-right w (omega arith) in
           put .kept (w * h + (y * w + x)) (λ s t. omega (arith, row-end w h n low)) (λ s t. omega arith) ∙ was .squares y x j q

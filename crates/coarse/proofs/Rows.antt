@@ -1,5 +1,6 @@
--- What a store adds: a scale to the table, an entry to a row, the two words of a sample to the work area. Assumes nothing.
+-- What a store adds: a scale to the table, an entry to a row, the two words of a sample, 0 of a hidden one, to the work area. Assumes nothing.
 use mathlib.Core.Path.{_≡_, refl, sym, ap, _∙_}
+use mathlib.Core.Bool.{Bool, true, false, cond}
 use mathlib.Core.List.{List}
 use Prim.Native.Nat.{ℕ, _+_, _<_}
 use native.Mathlib.Omega.{arith}
@@ -7,8 +8,13 @@ use native.Mathlib.Decide.{decLt, ℕ-discrete}
 use lib.ListN.{length, getD, set, length-set}
 use lib.Seq.{getD-set-same, getD-set-other}
 use lib.IntN.{ℤ, pos}
+use mir.Syntax.{w64}
+use mir.Val.{SFits}
+use mir.Facts.{toZ-ofZ}
+use Rattle.rules.specs.Window.{Shown}
 use Rattle.rules.specs.Transmission.{Sample}
-use Rattle.planes.specs.Stage.{productWord, squareWord}
+use Rattle.rules.proofs.Integers.{rd}
+use Rattle.planes.specs.Stage.{wordOf, productWord, squareWord}
 use Rattle.pixel.specs.Over.{Over}
 use Rattle.coarse.specs.Rows.{Scaled, SamplesPut}
 
@@ -37,10 +43,19 @@ row-more g l n x inside e h i q = go (decLt i n)
 
 -- ---- the words of sample n go into the work area
 
+-- z is a word of a sample, and m what is chosen by whether it is seen
+pub word-is : (word : Sample → ℕ) (i : Shown Sample) (z m : ℤ) → SFits w64 z → SFits w64 m → z ≡ pos (word (i .value)) → m ≡ cond (i .seen) (rd z) (pos 0)
+    → rd m ≡ pos (wordOf word i)
+word-is word i z m z-fits m-fits e chosen = toZ-ofZ {w = w64} m-fits ∙ chosen ∙ go (i .seen)
+  where
+    go : (b : Bool) → cond b (rd z) (pos 0) ≡ pos (cond b (word (i .value)) 0)
+    go true = toZ-ofZ {w = w64} z-fits ∙ e
+    go false = refl
+
 pub both-long : (to two : ℕ) (m : List ℤ) (n : ℕ) (a b : ℤ) → length (set (set m (to + n) a) (two + n) b) ≡ length m
 both-long to two m n a b = simp length-set
 
-module _ (to two : ℕ) (S : ℕ → Sample) where
+module _ (to two : ℕ) (S : ℕ → Shown Sample) where
   pub puts-none : (l : List ℤ) → SamplesPut l l to two S 0
   puts-none l = record { products = λ x h. absurd (omega arith); squares = λ x h. absurd (omega arith); kept = λ i p q. refl }
 
@@ -58,7 +73,7 @@ module _ (to two : ℕ) (S : ℕ → Sample) where
     other : (i : ℕ) → (i ≡ to + n → ⊥) → (i ≡ two + n → ⊥) → getD both i (pos 0) ≡ getD m i (pos 0)
     other i p q = getD-set-other (set m (to + n) a) (two + n) i b (pos 0) q ∙ getD-set-other m (to + n) i a (pos 0) p
 
-    pub puts-more : a ≡ pos (productWord (S n)) → b ≡ pos (squareWord (S n)) → SamplesPut l m to two S n → SamplesPut l both to two S (n + 1)
+    pub puts-more : a ≡ pos (wordOf productWord (S n)) → b ≡ pos (wordOf squareWord (S n)) → SamplesPut l m to two S n → SamplesPut l both to two S (n + 1)
     puts-more ea eb put =
         record {
           products = λ x h. product x h (decLt x n);
@@ -66,19 +81,19 @@ module _ (to two : ℕ) (S : ℕ → Sample) where
           kept = λ i p q. other i (λ e. p (omega arith) (omega arith)) (λ e. q (omega arith) (omega arith)) ∙ put .kept i (λ s t. p s (omega arith)) (λ s t. q s (omega arith));
         }
       where
-        product : (x : ℕ) → x < n + 1 → Dec (x < n) → getD both (to + x) (pos 0) ≡ pos (productWord (S x))
+        product : (x : ℕ) → x < n + 1 → Dec (x < n) → getD both (to + x) (pos 0) ≡ pos (wordOf productWord (S x))
         product x h (yes j) = other (to + x) (λ e. omega arith) (λ e. omega arith) ∙ put .products x j
         product x h (no j) = let k : x ≡ n = omega arith in rw k (first ∙ ea)
 
-        square : (x : ℕ) → x < n + 1 → Dec (x < n) → getD both (two + x) (pos 0) ≡ pos (squareWord (S x))
+        square : (x : ℕ) → x < n + 1 → Dec (x < n) → getD both (two + x) (pos 0) ≡ pos (wordOf squareWord (S x))
         square x h (yes j) = other (two + x) (λ e. omega arith) (λ e. omega arith) ∙ put .squares x j
         square x h (no j) = let k : x ≡ n = omega arith in rw k (second ∙ eb)
 
 -- the same samples, otherwise named
-pub puts-as : (l m : List ℤ) (to two : ℕ) (S T : ℕ → Sample) (n : ℕ) → ((x : ℕ) → x < n → T x ≡ S x) → SamplesPut l m to two S n → SamplesPut l m to two T n
+pub puts-as : (l m : List ℤ) (to two : ℕ) (S T : ℕ → Shown Sample) (n : ℕ) → ((x : ℕ) → x < n → T x ≡ S x) → SamplesPut l m to two S n → SamplesPut l m to two T n
 puts-as l m to two S T n e put =
     record {
-      products = λ x h. put .products x h ∙ ap (λ (i : Sample). pos (productWord i)) (sym (e x h));
-      squares = λ x h. put .squares x h ∙ ap (λ (i : Sample). pos (squareWord i)) (sym (e x h));
+      products = λ x h. put .products x h ∙ ap (λ (i : Shown Sample). pos (wordOf productWord i)) (sym (e x h));
+      squares = λ x h. put .squares x h ∙ ap (λ (i : Shown Sample). pos (wordOf squareWord i)) (sym (e x h));
       kept = put .kept;
     }

@@ -1,6 +1,6 @@
 -- Laws of the filter.
 pub mod Words
-pub mod Squares
+pub mod Windows
 pub mod Rows
 pub mod Lines
 pub mod Samples

@@ -1,9 +1,11 @@
--- A row of lines, pixel by pixel: what is read of a row of sums, and what one line more leaves. Assumes nothing.
-use mathlib.Core.Path.{_≡_, refl, ap, _∙_}
+-- A row of lines, pixel by pixel: the line of one pixel, what is read of a row of sums, and what one line more leaves. Assumes nothing.
+use mathlib.Core.Path.{_≡_, refl, ap, ap₂, _∙_}
+use mathlib.Core.Bool.{true}
 use mathlib.Core.List.{List}
 use Prim.Native.Nat.{ℕ, _+_, _*_, _^_, _≤_, _<_}
 use native.Mathlib.Decide.{decLt}
 use native.Mathlib.Omega.{arith}
+use borrow.Author.Tests.{eq-eqb, ne-eqb}
 use lib.Dec.{T}
 use lib.ListN.{length, getD, set, length-set}
 use lib.Seq.{getD-set-same, getD-set-other}
@@ -13,8 +15,8 @@ use mir.Syntax.{w64}
 use mir.Val.{Fits}
 use Rattle.rules.specs.Transmission.{Line, offsetOf}
 use Rattle.rules.proofs.Integers.{rd, rd-is}
-use Rattle.pixel.specs.Over.{Over, parts}
-use Rattle.filter.specs.Row.{guides, coarses, WordMoments, wordSlope, word, RowIn, rowLine, RowLines}
+use Rattle.planes.specs.Stage.{seenAt}
+use Rattle.filter.specs.Row.{guides, coarses, WordMoments, wordSlope, wordLine, word, RowIn, flatLine, rowLine, RowLines}
 
 -- ---- the lines before pixel i, and of pixel i
 
@@ -66,6 +68,31 @@ module _ (l m : List ℤ) (s o n i : ℕ) (F : ℕ → Line) (apart : s + n ≤ 
       b-small j (yes h) k = r .b-le j h
       b-small j (no h) k = let e : j ≡ i = omega arith in rw e b-le
 
+  -- the line L has been stored
+  pub row-turn : (m′ : List ℤ) (L : Line) → F i ≡ L → m′ ≡ set (set m (s + i) (L .a)) (o + i) (L .b) → (natAbs (L .a) ≤ 2560000) × (natAbs (L .b) ≤ 2147483648)
+      → (length m′ ≡ length m) × RowLines l m′ s o (i + 1) F
+  row-turn m′ L is e small = (
+    ap length e ∙ length-set (set m (s + i) (L .a)) (o + i) (L .b) ∙ length-set m (s + i) (L .a),
+    rw (e, ← is) (row-more (rw is (small .0)) (rw is (small .1))),
+  )
+
+-- ---- the line of one pixel, from what `slope` and `offset` answer
+
+module _ (n u v e : ℕ) {a b : ℤ} (a-is : a ≡ wordSlope n u v e) (a-le : natAbs a ≤ 2560000) (b-is : b ≡ offsetOf n (guides u) (coarses v) (rd a)) (b-le : natAbs b ≤ 2147483648) where
+  slope-is : rd a ≡ wordLine n u v e .a
+  slope-is = rd-is a (omega arith) ∙ a-is
+
+  offset-is : b ≡ wordLine n u v e .b
+  offset-is = b-is ∙ ap (offsetOf n (guides u) (coarses v)) slope-is
+
+  -- it is stored
+  pub pixel-set : (l m : List ℤ) (s o : ℕ) → m ≡ set (set l s (rd a)) o (rd b) → m ≡ set (set l s (wordLine n u v e .a)) o (wordLine n u v e .b)
+  pixel-set l m s o h = h ∙ ap₂ (λ (i j : ℤ). set (set l s i) o j) slope-is (rd-is b (omega arith) ∙ offset-is)
+
+  -- and small
+  pub pixel-small : (natAbs (wordLine n u v e .a) ≤ 2560000) × (natAbs (wordLine n u v e .b) ≤ 2147483648)
+  pixel-small = (rw a-is at a-le, rw offset-is at b-le)
+
 -- ---- what is read of the sums at pixel i, and the line that it gives
 
 -- a number that is not negative, as the machine reads it back
@@ -74,13 +101,23 @@ cast z k e h =
     let b : rd z ≡ pos k = ap rd e ∙ rd-is (pos k) h in
     rw b (tt, record { fits = omega arith })
 
-module _ {l us vs : List ℤ} {ns inverses : List ℕ} {s o n : ℕ} (p : RowIn l s o n us vs ns inverses) (i : ℕ) (h : i < n) where
+-- none of a hidden pixel
+pub hidden-line : (us vs : List ℤ) (ns : List ℕ) (e : ℕ) (mask : List ℕ) (at i : ℕ) → getD mask (at + i) 0 ≡ 0 → rowLine us vs ns e mask at i ≡ flatLine
+hidden-line us vs ns e mask at i zero = rw (eq-eqb (getD mask (at + i) 0) 0 zero)
+
+module _ {l us vs : List ℤ} {ns inverses mask : List ℕ} {s o n at : ℕ} (p : RowIn l s o n us vs ns inverses mask at) (i : ℕ) (h : i < n) (shown : getD mask (at + i) 0 ≡ 0 → ⊥) where
+  seen : seenAt mask (at + i) ≡ true
+  seen = rw (ne-eqb (getD mask (at + i) 0) 0 shown)
+
+  known : WordMoments (getD ns i 0) (word us i) (word vs i)
+  known = p .moments i h seen
+
   -- both words fit
   u-most : word us i < 2 ^ 63
-  u-most = omega (arith, p .moments i h .gt, p .moments i h .few)
+  u-most = omega (arith, known .gt, known .few)
 
   v-most : word vs i < 2 ^ 63
-  v-most = omega (arith, p .moments i h .gg, p .moments i h .few)
+  v-most = omega (arith, known .gg, known .few)
 
   -- and are read back as they are
   u-back : rd (getD us i (pos 0)) ≡ getD us i (pos 0)
@@ -102,24 +139,9 @@ module _ {l us vs : List ℤ} {ns inverses : List ℕ} {s o n : ℕ} (p : RowIn 
   abbrev v : ℕ
   v = natAbs (rd (getD vs i (pos 0)))
 
-  -- what `slope` and `offset` ask for
+  -- what the pixel's fit asks for, and the line that it stores
   pub read-moments : WordMoments (getD ns i 0) u v
-  read-moments = rw (u-back, v-back) (p .moments i h)
+  read-moments = rw (u-back, v-back) known
 
-  pub offset-in : (a : ℤ) → natAbs a ≤ 2560000
-      → (0 < getD ns i 0) × (getD ns i 0 ≤ 14641) × Over 1 (getD ns i 0) parts (getD inverses i 0) × (guides u ≤ 765 * getD ns i 0) × (coarses v ≤ 10000 * getD ns i 0)
-      × (natAbs (rd a) ≤ 2560000)
-  offset-in a le =
-      let m = read-moments in
-      (m .some, m .few, p .over i h, m .g, m .t, rw (rd-is a (omega arith)) le)
-
-  -- one line more
-  pub row-turn : (e : ℕ) (m : List ℤ) (a b : ℤ) → length m ≡ length l → RowLines l m s o i (rowLine us vs ns e) → a ≡ wordSlope (getD ns i 0) u v e → natAbs a ≤ 2560000
-      → b ≡ offsetOf (getD ns i 0) (guides u) (coarses v) (rd a) → natAbs b ≤ 2147483648 → RowLines l (set (set m (s + i) (rd a)) (o + i) (rd b)) s o (i + 1) (rowLine us vs ns e)
-  row-turn e m a b long r a-is a-le b-is b-le =
-      let back-a : rd a ≡ a = rd-is a (omega arith) in
-      let back-b : rd b ≡ b = rd-is b (omega arith) in
-      let slope : a ≡ rowLine us vs ns e i .a = rw (u-back, v-back) at a-is in
-      let offset : b ≡ rowLine us vs ns e i .b = rw (back-a, slope, u-back, v-back) at b-is in
-      rw (back-a, back-b, slope, offset)
-      (row-more l m s o n i (rowLine us vs ns e) (p .apart) (omega (arith, p .room)) h r (rw slope at a-le) (rw offset at b-le))
+  pub read-line : (e : ℕ) → rowLine us vs ns e mask at i ≡ wordLine (getD ns i 0) u v e
+  read-line e = rw (u-back, v-back, seen)

@@ -1,37 +1,50 @@
 -- The two planes of samples, before any line is written and after: what the sums are given of them, and what they leave. Assumes nothing.
 use mathlib.Core.Path.{_≡_, sym, _∙_}
+use mathlib.Core.Bool.{Bool, true, false, cond}
 use mathlib.Core.List.{List}
 use Prim.Native.Nat.{ℕ, _+_, _*_, _≤_, _<_}
 use native.Mathlib.Nat.{mul-le-mul}
 use native.Mathlib.Omega.{arith}
 use lib.ListN.{length, getD}
 use lib.IntN.{ℤ, pos}
-use Rattle.rules.specs.Window.{Plane}
+use Rattle.rules.specs.Window.{Plane, Shown}
 use Rattle.rules.specs.Transmission.{Sample}
 use Rattle.rules.proofs.Buffers.{place-lt}
 use Rattle.planes.specs.declared.View.{View}
 use Rattle.planes.specs.View.{InPlane}
 use Rattle.planes.specs.Cells.{cells}
-use Rattle.planes.specs.Stage.{Sampled}
+use Rattle.planes.specs.Stage.{productWord, squareWord, wordOf, Sampled}
 use Rattle.planes.proofs.Tails.{rest, rest-cells}
-use Rattle.sums.specs.Sum.{Summable, Columns}
+use Rattle.sums.specs.Sum.{valueMost, Summable, Columns}
 use Rattle.sums.proofs.Lent.{summable-rest, columns-as}
 
 -- ---- what the sums are given
 
-module _ {l : List ℤ} (v : View) (r : ℕ) {S : Plane Sample} (i : InPlane v) (hr : r ≤ 60) (s : Sampled l (v .w) (v .h) S) where
+-- a word that is 0 where it is hidden is no larger
+word-most : (word : Sample → ℕ) (i : Shown Sample) → word (i .value) ≤ valueMost → wordOf word i ≤ valueMost
+word-most word i le = go (i .seen)
+  where
+    go : (b : Bool) → cond b (word (i .value)) 0 ≤ valueMost
+    go true = le
+    go false = omega arith
+
+module _ {l : List ℤ} (v : View) (r : ℕ) {M : Plane Bool} {S : Plane (Shown Sample)} (i : InPlane v) (hr : r ≤ 60) (s : Sampled l (v .w) (v .h) M S) where
   pub first-summable : Summable l v r
   first-summable = record {
     in-plane = i;
     r-most = hr;
     room = omega (arith, s .room);
-    small = λ y x hy hx. rw (s .products y x hy hx) (omega (arith, mul-le-mul (s .g-le y x hy hx) (s .t-le y x hy hx), s .g-le y x hy hx));
+    small = λ y x hy hx.
+        rw (s .products y x hy hx)
+        (word-most productWord (S y x) (omega (arith, mul-le-mul (s .g-le y x hy hx) (s .t-le y x hy hx), s .g-le y x hy hx)));
   }
 
   pub second-summable : Summable (rest l (v .w * v .h)) v r
   second-summable =
       summable-rest l (v .w * v .h) v r i hr (omega (arith, s .room))
-      (λ y x hy hx. rw (s .squares y x hy hx) (omega (arith, mul-le-mul (s .g-le y x hy hx) (s .g-le y x hy hx), s .t-le y x hy hx)))
+      (λ y x hy hx.
+      rw (s .squares y x hy hx)
+      (word-most squareWord (S y x) (omega (arith, mul-le-mul (s .g-le y x hy hx) (s .g-le y x hy hx), s .t-le y x hy hx))))
 
 -- ---- what a pass that writes behind the samples leaves
 
@@ -48,9 +61,10 @@ module _ {l m : List ℤ} {w h : ℕ} (k : SameBefore l m (2 * (w * h))) where
   second-same y x hy hx = k .same (w * h + (y * w + x)) (omega (arith, place-lt (record { w = w; h = h }) y x hy hx))
 
   -- the samples
-  pub sampled-still : {S : Plane Sample} → length m ≡ length l → Sampled l w h S → Sampled m w h S
+  pub sampled-still : {M : Plane Bool} {S : Plane (Shown Sample)} → length m ≡ length l → Sampled l w h M S → Sampled m w h M S
   sampled-still long s = record {
     room = omega (arith, s .room);
+    seen = s .seen;
     g-le = s .g-le;
     t-le = s .t-le;
     products = λ y x hy hx. first-same y x hy hx ∙ s .products y x hy hx;

@@ -1,10 +1,12 @@
 -- The lines of a row of pixels, from the sums of the samples' two words over their windows. Assumes nothing.
 use mathlib.Core.Path.{_≡_}
+use mathlib.Core.Bool.{true, cond}
 use mathlib.Core.List.{List}
 use Prim.Native.Nat.{ℕ, _+_, _/_, _%_, _≤_, _<_}
 use lib.ListN.{getD, length}
 use lib.IntN.{ℤ, pos, natAbs}
 use Rattle.rules.specs.Transmission.{Line, slopeOf, offsetOf}
+use Rattle.planes.specs.Stage.{seenAt}
 use Rattle.pixel.specs.Moments.{Moments}
 use Rattle.pixel.specs.Over.{Over, parts}
 
@@ -39,22 +41,28 @@ wordLine n u v e = record { a = wordSlope n u v e; b = offsetOf n (guides u) (co
 abbrev pub word : List ℤ → ℕ → ℕ
 word l i = natAbs (getD l i (pos 0))
 
--- the sums of both words, the windows' sizes and the reciprocals of these, and room for slopes and, behind them, for offsets
-pub record RowIn (l : List ℤ) (slopes offsets n : ℕ) (us vs : List ℤ) (ns inverses : List ℕ) : Type 0 where
+-- the sums of both words, the windows' sizes and the reciprocals of these, the row's part of the mask from `at` on, and room for slopes and, behind
+-- them, for offsets. The window of a hidden pixel may have nothing in it, so moments are those of seen pixels
+pub record RowIn (l : List ℤ) (slopes offsets n : ℕ) (us vs : List ℤ) (ns inverses mask : List ℕ) (at : ℕ) : Type 0 where
   pub apart : slopes + n ≤ offsets
   pub room : offsets + n ≤ length l
   pub us-long : n ≤ length us
   pub vs-long : n ≤ length vs
   pub ns-long : n ≤ length ns
   pub inverses-long : n ≤ length inverses
+  pub mask-long : at + n ≤ length mask
   pub us-whole : (i : ℕ) → i < n → getD us i (pos 0) ≡ pos (word us i)
   pub vs-whole : (i : ℕ) → i < n → getD vs i (pos 0) ≡ pos (word vs i)
-  pub moments : (i : ℕ) → i < n → WordMoments (getD ns i 0) (word us i) (word vs i)
+  pub moments : (i : ℕ) → i < n → seenAt mask (at + i) ≡ true → WordMoments (getD ns i 0) (word us i) (word vs i)
   pub over : (i : ℕ) → i < n → Over 1 (getD ns i 0) parts (getD inverses i 0)
 
--- the line of pixel i
-abbrev pub rowLine : List ℤ → List ℤ → List ℕ → ℕ → ℕ → Line
-rowLine us vs ns e i = wordLine (getD ns i 0) (word us i) (word vs i) e
+-- no line, of a hidden pixel
+abbrev pub flatLine : Line
+flatLine = record { a = pos 0; b = pos 0 }
+
+-- the line of pixel i, which is the one at `at` + i of the mask
+abbrev pub rowLine : List ℤ → List ℤ → List ℕ → ℕ → List ℕ → ℕ → ℕ → Line
+rowLine us vs ns e mask at i = cond (seenAt mask (at + i)) (wordLine (getD ns i 0) (word us i) (word vs i) e) flatLine
 
 -- m is l, but the slopes of n lines F from `slopes` on and their offsets from `offsets` on. They are small
 pub record RowLines (l m : List ℤ) (slopes offsets n : ℕ) (F : ℕ → Line) : Type 0 where

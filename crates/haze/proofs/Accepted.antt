@@ -8,11 +8,12 @@ use Rattle.clearing.specs.Call.{Loan}
 
 module _ (p : Setup) (l : Lent) (n : AcceptedClear p l) where
   -- the frame, as a box of its own
-  pub given : Given (shape p) (shape p) 0 0 (p .settings) (p .light) (l .frame)
+  pub given : Given (shape p) (shape p) 0 0 (p .settings) (p .light) (p .mask) (l .frame)
   given = record {
     size = n .size;
     settings = n .settings;
     light = n .light;
+    shown = n .shown;
     bytes = n .bytes;
     fits = whole-fits (shape p);
     across = n .size .across;

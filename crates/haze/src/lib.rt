@@ -11,14 +11,14 @@ use rules::Settings;
 use rules::Size;
 
 // Light: the ambient light of a frame.
-pub fn light(z: Size, k: Settings, frame: &[u8], work: &mut [i64]) -> Found
-    ensures { λ r. ⌜ Lights z k (now (frame .entry)) (now (work .entry)) r (now (work .exit)) ⌝ }
+pub fn light(z: Size, k: Settings, mask: &[u8], frame: &[u8], work: &mut [i64]) -> Found
+    ensures { λ r. ⌜ Lights z k (now (mask .entry)) (now (frame .entry)) (now (work .entry)) r (now (work .exit)) ⌝ }
 {
-    let n = refusals::refuse_light(z, k, frame.len(), work.len());
+    let n = refusals::refuse_light(z, k, mask, frame.len(), work.len());
     if n != 0 {
         return Found::Refused(n);
     }
-    Found::Light(light::find(z, k, frame, work))
+    Found::Light(light::find(z, k, mask, frame, work))
 }
 
 // Clear: the transmission map and the cleared frame.
@@ -26,20 +26,30 @@ pub fn clear(
     z: Size,
     k: Settings,
     a: Rgb,
+    mask: &[u8],
     frame: &[u8],
     map: &mut [u16],
     picture: &mut [u8],
     work: &mut [i64],
 ) -> Answer
-    ensures { λ r. ⌜ Clears (handed z k a)
+    ensures { λ r. ⌜ Clears (handed z k a (now (mask .entry)))
         (lentOf (now (frame .entry)) (now (map .entry)) (now (picture .entry)) (now (work .entry))) r
         (lentOf (now (frame .entry)) (now (map .exit)) (now (picture .exit)) (now (work .exit))) ⌝ }
 {
-    let n = refusals::refuse_clear(z, k, a, frame.len(), map.len(), picture.len(), work.len());
+    let n = refusals::refuse_clear(
+        z,
+        k,
+        a,
+        mask.len(),
+        frame.len(),
+        map.len(),
+        picture.len(),
+        work.len(),
+    );
     if n != 0 {
         return Answer::Refused(n);
     }
-    clearing::clear_whole(map, picture, frame, work, z, k, a);
+    clearing::clear_whole(map, picture, mask, frame, work, z, k, a);
     Answer::Done
 }
 
@@ -50,12 +60,13 @@ pub fn replace(
     a: Rgb,
     c: Rect,
     new: &[u8],
+    mask: &[u8],
     frame: &mut [u8],
     map: &mut [u16],
     picture: &mut [u8],
     work: &mut [i64],
 ) -> Answer
-    ensures { λ r. ⌜ Replaces (handed z k a) c (now (new .entry))
+    ensures { λ r. ⌜ Replaces (handed z k a (now (mask .entry))) c (now (new .entry))
         (lentOf (now (frame .entry)) (now (map .entry)) (now (picture .entry)) (now (work .entry))) r
         (lentOf (now (frame .exit)) (now (map .exit)) (now (picture .exit)) (now (work .exit))) ⌝ }
 {
@@ -65,6 +76,7 @@ pub fn replace(
         a,
         c,
         new.len(),
+        mask.len(),
         frame.len(),
         map.len(),
         picture.len(),
@@ -73,7 +85,7 @@ pub fn replace(
     if n != 0 {
         return Answer::Refused(n);
     }
-    clearing::replace_whole(frame, map, picture, work, z, k, a, c, new);
+    clearing::replace_whole(mask, frame, map, picture, work, z, k, a, c, new);
     Answer::Done
 }
 

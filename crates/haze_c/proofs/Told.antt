@@ -2,7 +2,6 @@
 use mathlib.Core.Path.{_≡_, refl}
 use Prim.Native.Nat.{ℕ}
 use mathlib.Core.List.{List}
-use lib.ListN.{length}
 use lib.IntN.{ℤ}
 use Rattle.rules.specs.declared.Size.{Size}
 use Rattle.rules.specs.declared.Settings.{Settings}
@@ -17,9 +16,8 @@ use Rattle.rules.specs.declared.Band.the-variants as band
 use Rattle.rules.specs.Setup.{handed}
 use Rattle.rules.specs.Shape.{described}
 use Rattle.rules.specs.Light.{light}
-use Rattle.rules.specs.Buffers.{pixels}
-use Rattle.rules.specs.Refusals.{refuseLight}
-use Rattle.rules.specs.Promise.{said, foundSaid, bandSaid, wiped, Lent, Lights, Clears, Replaces, Hazes, Bands}
+use Rattle.rules.specs.Buffers.{masked}
+use Rattle.rules.specs.Promise.{said, foundSaid, bandSaid, wiped, noLight, Lent, Lights, Clears, Replaces, Hazes, Bands}
 use Rattle.boundary.specs.Handed.{lightAfter, figureAfter}
 use Rattle.boundary.proofs.Told.{answered-returns, valued-returns, unless-both}
 use Rattle.haze_c.specs.Calls.{lightPlaces, LightReturns, ClearReturns, ReplaceReturns, AddReturns, BandReturns}
@@ -27,24 +25,24 @@ use Rattle.haze_c.specs.Calls.{lightPlaces, LightReturns, ClearReturns, 
 -- ---- an answer with no value
 
 pub clear-returns :
-    {z z′ : Size} {k k′ : Settings} {a a′ : Rgb} {l m : Lent} {r : Answer} {n : ℕ}
+    {z z′ : Size} {k k′ : Settings} {a a′ : Rgb} {mask : List ℕ} {l m : Lent} {r : Answer} {n : ℕ}
     → z ≡ z′
     → k ≡ k′
     → a ≡ a′
-    → Clears (handed z k a) l r m
+    → Clears (handed z k a mask) l r m
     → n ≡ said r
-    → ClearReturns (handed z′ k′ a′) l n m
+    → ClearReturns (handed z′ k′ a′ mask) l n m
 clear-returns sized set lit p told = rw (← sized, ← set, ← lit) (answered-returns _ _ _ _ (p .answer) (p .after) told)
 
 pub replace-returns :
-    {z z′ : Size} {k k′ : Settings} {a a′ : Rgb} {c c′ : Rect} {new : List ℕ} {l m : Lent} {r : Answer} {n : ℕ}
+    {z z′ : Size} {k k′ : Settings} {a a′ : Rgb} {c c′ : Rect} {mask new : List ℕ} {l m : Lent} {r : Answer} {n : ℕ}
     → z ≡ z′
     → k ≡ k′
     → a ≡ a′
     → c ≡ c′
-    → Replaces (handed z k a) c new l r m
+    → Replaces (handed z k a mask) c new l r m
     → n ≡ said r
-    → ReplaceReturns (handed z′ k′ a′) c′ new l n m
+    → ReplaceReturns (handed z′ k′ a′ mask) c′ new l n m
 replace-returns sized set lit placed p told = rw (← sized, ← set, ← lit, ← placed) (answered-returns _ _ _ _ (p .answer) (p .after) told)
 
 pub add-returns :
@@ -59,15 +57,15 @@ add-returns sized lit p told = rw (← sized, ← lit) (answered-returns _ _ _ _
 -- ---- an answer with a value
 
 pub light-returns :
-    {z z′ : Size} {k k′ : Settings} {frame : List ℕ} {w v : List ℤ} {p a : Rgb} {r : Found} {n : ℕ}
+    {z z′ : Size} {k k′ : Settings} {mask frame : List ℕ} {w v : List ℤ} {p a : Rgb} {r : Found} {n : ℕ}
     → z ≡ z′
     → k ≡ k′
-    → Lights z k frame w r v
+    → Lights z k mask frame w r v
     → (n ≡ foundSaid r) × (a ≡ lightAfter r p)
-    → LightReturns z′ k′ frame (lightPlaces w p) n (lightPlaces v a)
-light-returns {z} {k} {frame} {w} {p} sized set q told =
-    let f = refuseLight z k (length frame) (length w) in
-    let new = light (described z) k (pixels (described z) frame) in
+    → LightReturns z′ k′ mask frame (lightPlaces w p) n (lightPlaces v a)
+light-returns {z} {k} {mask} {frame} {w} {p} sized set q told =
+    let f = noLight z k mask frame w in
+    let new = light (described z) k (masked (described z) mask frame) in
     let e =
     valued-returns found.Light found.Refused foundSaid lightAfter (λ v. refl) (λ n. refl) (λ v old. refl) (λ n old. refl) f new p (q .answer) told in
     rw (← sized, ← set) (record { number = e .number; after = rw (q .after, e .after) (unless-both lightPlaces f (wiped (described z) w) w new p) })

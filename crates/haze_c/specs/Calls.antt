@@ -12,9 +12,9 @@ use Rattle.rules.specs.Shape.{described}
 use Rattle.rules.specs.Light.{light}
 use Rattle.rules.specs.Picture.{figure}
 use Rattle.rules.specs.Setup.{Setup}
-use Rattle.rules.specs.Buffers.{pixels, hazed}
-use Rattle.rules.specs.Refusals.{refuseLight, refuseHaze, refuseBand}
-use Rattle.rules.specs.Promise.{wiped, Lent, noClear, noReplace, afterClear, afterReplace}
+use Rattle.rules.specs.Buffers.{masked, hazed}
+use Rattle.rules.specs.Refusals.{refuseHaze, refuseBand}
+use Rattle.rules.specs.Promise.{wiped, Lent, noLight, noClear, noReplace, afterClear, afterReplace}
 use Rattle.boundary.specs.Returns.{Returns}
 
 -- what Light may write: the work area and the place of its light
@@ -25,11 +25,11 @@ pub record LightPlaces : Type 0 where
 abbrev pub lightPlaces : List ℤ → Rgb → LightPlaces
 lightPlaces work a = record { work = work; light = a }
 
-abbrev pub LightReturns : Size → Settings → List ℕ → LightPlaces → ℕ → LightPlaces → Type 0
-LightReturns z k frame p =
+abbrev pub LightReturns : Size → Settings → List ℕ → List ℕ → LightPlaces → ℕ → LightPlaces → Type 0
+LightReturns z k mask frame p =
     Returns
-    (refuseLight z k (length frame) (length (p .work)))
-    (lightPlaces (wiped (described z) (p .work)) (light (described z) k (pixels (described z) frame)))
+    (noLight z k mask frame (p .work))
+    (lightPlaces (wiped (described z) (p .work)) (light (described z) k (masked (described z) mask frame)))
     p
 
 abbrev pub ClearReturns : Setup → Lent → ℕ → Lent → Type 0

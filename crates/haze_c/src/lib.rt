@@ -17,17 +17,18 @@ pub extern "C" fn haze_light(
     w: u64,
     h: u64,
     settings: &[u64; 6],
+    mask: &[u8],
     frame: &[u8],
     work: &mut [i64],
     lights: &mut [u8; 3],
 ) -> u8
-    ensures { λ n. ⌜ LightReturns (size w h) (settingsIn (now (settings .entry))) (now (frame .entry))
+    ensures { λ n. ⌜ LightReturns (size w h) (settingsIn (now (settings .entry))) (now (mask .entry)) (now (frame .entry))
         (lightPlaces (now (work .entry)) (rgbIn (now (lights .entry))))
         n
         (lightPlaces (now (work .exit)) (rgbIn (now (lights .exit)))) ⌝ }
 {
     lit(
-        haze::light(sized(w, h), settings_in(settings), frame, work),
+        haze::light(sized(w, h), settings_in(settings), mask, frame, work),
         lights,
     )
 }
@@ -39,12 +40,13 @@ pub extern "C" fn haze_clear(
     h: u64,
     settings: &[u64; 6],
     lights: &[u8; 3],
+    mask: &[u8],
     frame: &[u8],
     map: &mut [u16],
     picture: &mut [u8],
     work: &mut [i64],
 ) -> u8
-    ensures { λ n. ⌜ ClearReturns (setupIn w h (now (settings .entry)) (now (lights .entry)))
+    ensures { λ n. ⌜ ClearReturns (setupIn w h (now (settings .entry)) (now (lights .entry)) (now (mask .entry)))
         (lentOf (now (frame .entry)) (now (map .entry)) (now (picture .entry)) (now (work .entry)))
         n
         (lentOf (now (frame .entry)) (now (map .exit)) (now (picture .exit)) (now (work .exit))) ⌝ }
@@ -53,6 +55,7 @@ pub extern "C" fn haze_clear(
         sized(w, h),
         settings_in(settings),
         rgb_in(lights),
+        mask,
         frame,
         map,
         picture,
@@ -69,12 +72,13 @@ pub extern "C" fn haze_replace(
     lights: &[u8; 3],
     rect: &[u64; 4],
     pixels: &[u8],
+    mask: &[u8],
     frame: &mut [u8],
     map: &mut [u16],
     picture: &mut [u8],
     work: &mut [i64],
 ) -> u8
-    ensures { λ n. ⌜ ReplaceReturns (setupIn w h (now (settings .entry)) (now (lights .entry))) (rectIn (now (rect .entry))) (now (pixels .entry))
+    ensures { λ n. ⌜ ReplaceReturns (setupIn w h (now (settings .entry)) (now (lights .entry)) (now (mask .entry))) (rectIn (now (rect .entry))) (now (pixels .entry))
         (lentOf (now (frame .entry)) (now (map .entry)) (now (picture .entry)) (now (work .entry)))
         n
         (lentOf (now (frame .exit)) (now (map .exit)) (now (picture .exit)) (now (work .exit))) ⌝ }
@@ -85,6 +89,7 @@ pub extern "C" fn haze_replace(
         rgb_in(lights),
         rect_in(rect),
         pixels,
+        mask,
         frame,
         map,
         picture,

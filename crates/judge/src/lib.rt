@@ -6,7 +6,7 @@ ghost use Prim.Native.Nat.{_+_};
 ghost use lib.Dec.{ltb};
 ghost use Rattle.rules.specs.Shape.{described};
 ghost use Rattle.rules.specs.Good.{GoodSize};
-ghost use Rattle.rules.specs.Refusals.{first, out, badSize, badSettings, badFrame, badMap, badWork, badLight, badRect, badBand, badEntries};
+ghost use Rattle.rules.specs.Refusals.{first, out, badSize, badSettings, badFrame, badMap, badMask, badWork, badLight, badRect, badBand, badEntries, badSeen};
 use rules::Rect;
 use rules::Rgb;
 use rules::Settings;
@@ -89,6 +89,13 @@ pub fn wrong_map(z: Size, n: usize) -> bool
     n != z.w * z.h
 }
 
+pub fn wrong_mask(z: Size, n: usize) -> bool
+    requires { ⌜ GoodSize (described z) ⌝ }
+    ensures { λ r. ⌜ r ≡ badMask z n ⌝ }
+{
+    n != z.w * z.h
+}
+
 pub fn wrong_work(z: Size, n: usize) -> bool
     requires { ⌜ GoodSize (described z) ⌝ }
     ensures { λ r. ⌜ r ≡ badWork z n ⌝ }
@@ -126,4 +133,18 @@ pub fn wrong_entries(map: &[u16]) -> bool
         i += 1;
     }
     bad
+}
+
+// No pixel is seen. The first that is ends the search.
+pub fn wrong_seen(mask: &[u8]) -> bool
+    ensures { λ r. ⌜ r ≡ badSeen (now (mask .entry)) ⌝ }
+{
+    let mut i = 0;
+    while i < mask.len() {
+        if mask[i] != 0 {
+            return false;
+        }
+        i += 1;
+    }
+    true
 }

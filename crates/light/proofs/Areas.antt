@@ -1,4 +1,4 @@
--- What the steps leave in the work area, row by row: the dark values, their counts and their bounds. Assumes nothing.
+-- What the steps leave in the work area, row by row: the levels, their counts and their bounds. Assumes nothing.
 use mathlib.Core.Path.{_≡_, refl, sym, ap, _∙_}
 use mathlib.Core.List.{List, _++_}
 use Prim.Native.Nat.{ℕ, _+_, _-_, _*_, _%_, _≤_, _<_}
@@ -16,9 +16,9 @@ use Rattle.rules.specs.Promise.{wiped}
 use Rattle.rules.proofs.Buffers.{place-lt}
 use Rattle.planes.specs.Cells.{SameFrom}
 use Rattle.planes.proofs.Wiped.{wiped-same}
-use Rattle.light.specs.Steps.{value, ByteEntries, Starts, hits, lane, RowPut, darkAt, DarkPlane, DarkTo, Darkened}
+use Rattle.light.specs.Steps.{value, Levels, Starts, hits, lane, RowPut, levelAt, DarkPlane, DarkTo, Darkened}
 use Rattle.light.proofs.Positions.{count-cong}
-use Rattle.light.proofs.Minima.{dark-le}
+use Rattle.light.proofs.Minima.{level-le}
 
 -- ---- places
 
@@ -44,7 +44,7 @@ row-end w h y l =
 -- ---- the rows that are given
 
 module _ (z : Shape) (D : ℕ → ℕ) (l : List ℤ) where
-  pub dark-none : (apart tops : List ℕ) → Starts (λ v. 0) 1024 apart → DarkTo z D l l apart tops 0
+  pub dark-none : (apart tops : List ℕ) → Starts (λ v. 0) 1028 apart → DarkTo z D l l apart tops 0
   dark-none apart tops h =
       let e : 0 * z .w ≡ 0 = zero-mul (z .w) in
       record {
@@ -54,9 +54,9 @@ module _ (z : Shape) (D : ℕ → ℕ) (l : List ℤ) where
         bounds = λ y x p q. absurd (omega arith);
       }
 
-  -- row n is given: its dark values d, the counts with them, and a bound of them
+  -- row n is given: its levels d, the counts with them, and a bound of them
   module _ (m m′ : List ℤ) (apart apart′ tops : List ℕ) (n : ℕ) (d : ℕ → ℕ) (top : ℕ) (low : n < z .h) (row : (x : ℕ) → x < z .w → d x ≡ D (n * z .w + x)) where
-    pub dark-more : DarkTo z D l m apart tops n → RowPut m m′ (n * z .w) d (z .w) → Starts (hits (lane D) (n * z .w + z .w)) 1024 apart′
+    pub dark-more : DarkTo z D l m apart tops n → RowPut m m′ (n * z .w) d (z .w) → Starts (hits (lane D) (n * z .w + z .w)) 1028 apart′
         → n < length tops → ((x : ℕ) → x < z .w → d x ≤ top) → DarkTo z D l m′ apart′ (set tops n top) (n + 1)
     dark-more was put counted inside bound =
         record {
@@ -79,32 +79,32 @@ module _ (z : Shape) (D : ℕ → ℕ) (l : List ℤ) where
             let e : y ≡ n = omega arith in
             rw (e, getD-set-same tops n top 0 inside) (omega (arith, row x q, bound x q))
 
--- ---- the dark values, read again
+-- ---- the levels, read again
 
-module _ (z : Size) (k : Settings) (frame : List ℕ) (v : List ℤ) (d : DarkPlane z k frame v) where
-  pub value-dark : (p : ℕ) → p < z .w * z .h → value v p ≡ darkAt (described z) (k .s) frame p
-  value-dark p h = ap natAbs (d .is p h)
+module _ (z : Size) (k : Settings) (mask frame : List ℕ) (v : List ℤ) (d : DarkPlane z k mask frame v) where
+  pub value-level : (p : ℕ) → p < z .w * z .h → value v p ≡ levelAt (described z) (k .s) mask frame p
+  value-level p h = ap natAbs (d .is p h)
 
-  pub levels : ByteEntries (z .w * z .h) v
+  pub levels : Levels (z .w * z .h) v
   levels p h =
-      let e = value-dark p h in
+      let e = value-level p h in
       (d .is p h ∙ ap pos (sym e), omega (arith, d .small p))
 
 -- all rows are given
-pub dark-all : (z : Size) (k : Settings) (frame : List ℕ) (l m : List ℤ) (apart tops : List ℕ) → DarkTo (described z) (darkAt (described z) (k .s) frame) l m apart tops (z .h)
-    → Darkened z k frame m apart tops
-dark-all z k frame l m apart tops to =
-    let same = value-dark z k frame m plane in
+pub dark-all : (z : Size) (k : Settings) (mask frame : List ℕ) (l m : List ℤ) (apart tops : List ℕ) → DarkTo (described z) (levelAt (described z) (k .s) mask frame) l m apart tops (z .h)
+    → Darkened z k mask frame m apart tops
+dark-all z k mask frame l m apart tops to =
+    let same = value-level z k mask frame m plane in
     record {
       plane = plane;
       counts =
           λ v h.
           rw (mul-comm (z .w) (z .h))
           (to .counts v h
-          ∙ count-cong (λ o. eqb v (lane (darkAt (described z) (k .s) frame) o)) (λ o. eqb v (lane (value m) o)) 0 (z .h * z .w)
+          ∙ count-cong (λ o. eqb v (lane (levelAt (described z) (k .s) mask frame) o)) (λ o. eqb v (lane (value m) o)) 0 (z .h * z .w)
           (λ o a b. ap (λ (i : ℕ). eqb v (4 * i + o % 4)) (sym (same o (omega (arith, mul-comm (z .w) (z .h)))))));
       bounds = λ y x hy hx. rw (same (y * z .w + x) (place-lt (described z) y x hy hx)) (to .bounds y x hy hx);
     }
   where
-    plane : DarkPlane z k frame m
-    plane = record { is = λ p h. to .plane p (omega (arith, mul-comm (z .w) (z .h))); small = dark-le (described z) (k .s) frame }
+    plane : DarkPlane z k mask frame m
+    plane = record { is = λ p h. to .plane p (omega (arith, mul-comm (z .w) (z .h))); small = level-le (described z) (k .s) mask frame }

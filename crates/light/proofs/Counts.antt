@@ -1,4 +1,4 @@
--- The counts of the dark values, and the candidates by their cutoff. Assumes nothing.
+-- The counts of the levels, and the candidates by their cutoff. Assumes nothing.
 use mathlib.Core.Path.{_≡_, refl, sym, ap, ap₂, subst, _∙_}
 use mathlib.Core.Bool.{Bool, true, false, cond, _&&_, _||_}
 use mathlib.Core.List.{List}
@@ -11,7 +11,6 @@ use borrow.Author.Tests.{eqb-true, le-leb, lt-leb, eq-eqb, ne-eqb}
 use lib.Dec.{ltb, leb, eqb}
 use lib.ListN.{length, getD, set, drop-of-length-le}
 use lib.Seq.{getD-set-same, getD-set-other, drop-cons}
-use Rattle.rules.specs.Shape.{Shape}
 use Rattle.rules.specs.Window.{total}
 use Rattle.rules.specs.Light.{count, rank}
 use Rattle.rules.proofs.Rank.{count-or, above, reaching, earlier, by-cutoff}
@@ -45,14 +44,14 @@ tallied-more d m n l x b f h v s = go (decLt v x) (decLt x v)
         rw z (getD-set-same l v (getD l v 0 + 1) 0 (omega arith) ∙ ap (λ (i : ℕ). i + 1) (h v s) ∙ sym (hits-more d n v ∙ rw y))
 
 -- and no count is above how many are counted
-pub below-more : (n : ℕ) (l : List ℕ) (x : ℕ) → x < length l → x < 1024 → Below n l → Below (n + 1) (set l x (getD l x 0 + 1))
+pub below-more : (n : ℕ) (l : List ℕ) (x : ℕ) → x < length l → x < 1028 → Below n l → Below (n + 1) (set l x (getD l x 0 + 1))
 below-more n l x b s h v q = go (ℕ-discrete v x)
   where
     go : Dec (v ≡ x) → getD (set l x (getD l x 0 + 1)) v 0 ≤ n + 1
     go (yes e) = rw (e, getD-set-same l x (getD l x 0 + 1) 0 b) (omega (arith, h x s))
     go (no e) = rw (getD-set-other l x v (getD l x 0 + 1) 0 e) (omega (arith, h v q))
 
-pub hits-below : (d : ℕ → ℕ) (n : ℕ) (l : List ℕ) → Starts (hits d n) 1024 l → Below n l
+pub hits-below : (d : ℕ → ℕ) (n : ℕ) (l : List ℕ) → Starts (hits d n) 1028 l → Below n l
 hits-below d n l h v q = omega (arith, h v q, hits-le d n v)
 
 -- ---- the four lanes of a value
@@ -95,15 +94,15 @@ lanes d v (suc n) =
     in
     subst (Lanes d v) (add-one n) after
 
-pub tallied-joined : (d : ℕ → ℕ) (n : ℕ) (l k : List ℕ) → Starts (hits (lane d) n) 1024 l → Starts (joined l) 256 k → Tallied d n k
+pub tallied-joined : (d : ℕ → ℕ) (n : ℕ) (l k : List ℕ) → Starts (hits (lane d) n) 1028 l → Starts (joined l) 257 k → Tallied d n k
 tallied-joined d n l k a b v h =
     omega (arith, b v h, lanes d v n, a (4 * v) (omega arith), a (4 * v + 1) (omega arith), a (4 * v + 2) (omega arith), a (4 * v + 3) (omega arith))
 
 -- ---- how many are at least a value
 
-pub atLeast-last : (l : List ℕ) → length l ≡ 256 → atLeast l 256 ≡ 0
+pub atLeast-last : (l : List ℕ) (v : ℕ) → length l ≡ v → atLeast l v ≡ 0
 unfolding atLeast
-atLeast-last l e = ap (total (λ (i : ℕ). i)) (drop-of-length-le l {i = 256} (omega arith))
+atLeast-last l v e = ap (total (λ (i : ℕ). i)) (drop-of-length-le l {i = v} (omega arith))
 
 pub atLeast-more : (l : List ℕ) (v : ℕ) → v < length l → atLeast l v ≡ getD l v 0 + atLeast l (v + 1)
 unfolding atLeast
@@ -122,21 +121,21 @@ at-or-above v x = go (decLt v x) (decLt x v)
     go (no g) (yes k) = rw (ne-eqb v x (λ z. omega arith), lt-leb (suc v) x (omega arith), lt-leb v x k)
     go (no g) (no k) = rw (eq-eqb v x (omega arith), le-leb v x (omega arith))
 
-module _ (d : ℕ → ℕ) (n : ℕ) (l : List ℕ) (e : length l ≡ 256) (small : (o : ℕ) → o < n → d o ≤ 255) (t : Tallied d n l) where
-  atLeast-from : (k v : ℕ) → v + k ≡ 256 → atLeast l v ≡ count (λ o. leb v (d o)) (upto n)
+module _ (d : ℕ → ℕ) (n : ℕ) (l : List ℕ) (e : length l ≡ 257) (small : (o : ℕ) → o < n → d o ≤ 256) (t : Tallied d n l) where
+  atLeast-from : (k v : ℕ) → v + k ≡ 257 → atLeast l v ≡ count (λ o. leb v (d o)) (upto n)
   atLeast-from zero v f =
-      let g : v ≡ 256 = omega arith in
+      let g : v ≡ 257 = omega arith in
       rw g
-      (atLeast-last l e
-      ∙ sym (count-cong (λ o. leb 256 (d o)) (λ o. false) 0 n (λ o a b. lt-leb 256 (d o) (omega (arith, small o (omega arith)))) ∙ count-none (upto n)))
+      (atLeast-last l 257 e
+      ∙ sym (count-cong (λ o. leb 257 (d o)) (λ o. false) 0 n (λ o a b. lt-leb 257 (d o) (omega (arith, small o (omega arith)))) ∙ count-none (upto n)))
   atLeast-from (suc k) v f =
       atLeast-more l v (omega arith)
       ∙ ap₂ _+_ (t v (omega arith)) (ap (atLeast l) (add-one v) ∙ atLeast-from k (suc v) (omega arith))
       ∙ sym (count-or (λ o. eqb v (d o)) (λ o. ltb v (d o)) (upto n) (λ o g. lt-leb (suc v) (d o) (omega (arith, eqb-true v (d o) g))))
       ∙ count-cong (λ o. eqb v (d o) || ltb v (d o)) (λ o. leb v (d o)) 0 n (λ o a b. at-or-above v (d o))
 
-  pub atLeast-is : (v : ℕ) → v ≤ 256 → atLeast l v ≡ count (λ o. leb v (d o)) (upto n)
-  atLeast-is v h = atLeast-from (256 - v) v (omega arith)
+  pub atLeast-is : (v : ℕ) → v ≤ 257 → atLeast l v ≡ count (λ o. leb v (d o)) (upto n)
+  atLeast-is v h = atLeast-from (257 - v) v (omega arith)
 
   pub atLeast-all : atLeast l 0 ≡ n
   atLeast-all =
@@ -144,18 +143,16 @@ module _ (d : ℕ → ℕ) (n : ℕ) (l : List ℕ) (e : length l ≡ 256) (smal
       ∙ count-cong (λ o. leb 0 (d o)) (λ o. true) 0 n (λ o a b. le-leb 0 (d o) (omega arith))
       ∙ all-upto n
 
--- the pixels that the cutoff of the counts lets in are the first m by rank
-pub by-counts : (z : Shape) (d : ℕ → ℕ) (l : List ℕ) (m : ℕ) (c : Cut) → length l ≡ 256 → ((o : ℕ) → o < z .w * z .h → d o ≤ 255)
-    → Tallied d (z .w * z .h) l → CutAt l m c → (p : ℕ) → p < z .w * z .h → ltb (rank z d p) m ≡ admitted d c p
-unfolding above reaching earlier
-by-counts z d l m c e small t k p h =
-    let n : ℕ = z .w * z .h in
-    let v : ℕ = c .value in
-    let over : above z d v ≡ atLeast l (v + 1) =
-    sym (atLeast-is d n l e small t (v + 1) (omega (arith, k .small)) ∙ ap (λ (i : ℕ). count (λ o. leb i (d o)) (upto n)) (add-one v))
-    in
-    let reached : reaching z d v ≡ atLeast l v = sym (atLeast-is d n l e small t v (omega (arith, k .small))) in
-    let early : earlier z d v p ≡ hits d p v = count-before (λ o. eqb v (d o)) n p (omega arith) in
-    by-cutoff z d v m (omega (arith, over, k .low)) (omega (arith, reached, k .high)) p
-    ∙ (λ i. ltb v (d p) || (eqb v (d p) && ltb (early i) (m - over i)))
-    ∙ ap (λ (i : ℕ). ltb v (d p) || (eqb v (d p) && ltb (hits d p v) i)) (sym (k .ties))
+  -- the positions that the cutoff of the counts lets in are the first m by rank
+  pub by-counts : (m : ℕ) (c : Cut) → CutAt l m c → (p : ℕ) → p < n → ltb (rank (upto n) d p) m ≡ admitted d c p
+  unfolding above reaching earlier
+  by-counts m c k p h =
+      let v : ℕ = c .value in
+      let over : above (upto n) d v ≡ atLeast l (v + 1) =
+      sym (atLeast-is (v + 1) (omega (arith, k .small)) ∙ ap (λ (i : ℕ). count (λ o. leb i (d o)) (upto n)) (add-one v))
+      in
+      let reached : reaching (upto n) d v ≡ atLeast l v = sym (atLeast-is v (omega (arith, k .small))) in
+      let early : earlier (upto n) d v p ≡ hits d p v = count-before (λ o. eqb v (d o)) n p (omega arith) in
+      by-cutoff (upto n) d v m (omega (arith, over, k .low)) (omega (arith, reached, k .high)) p
+      ∙ (λ i. ltb v (d p) || (eqb v (d p) && ltb (early i) (m - over i)))
+      ∙ ap (λ (i : ℕ). ltb v (d p) || (eqb v (d p) && ltb (hits d p v) i)) (sym (k .ties))

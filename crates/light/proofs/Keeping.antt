@@ -44,7 +44,7 @@ next-lt n b ok o x h k = go ok (leb (b .top) x)
     go true false = h
     go false t = h
 
--- ---- a turn at position p: x is the dark value, y the guide
+-- ---- a turn at position p: x is the level, y the guide
 
 module _ (frame : List ℕ) (work : List ℤ) (c : Cut) where
   module _ (p : ℕ) (b : Walk) (b′ : Leader) (seen′ x y : ℕ) (ok : Bool) where

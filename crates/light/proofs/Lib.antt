@@ -1,5 +1,6 @@
 -- What belongs to no one function.
 pub mod Positions
+pub mod Levels
 pub mod Counts
 pub mod Keeping
 pub mod Rows

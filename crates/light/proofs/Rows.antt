@@ -1,4 +1,4 @@
--- What a store adds: an entry to a row, a dark value to the work area. Assumes nothing.
+-- What a store adds: an entry to a row, a level to the work area. Assumes nothing.
 use mathlib.Core.Path.{_≡_, refl, _∙_}
 use mathlib.Core.List.{List}
 use Prim.Native.Nat.{ℕ, _+_, _≤_, _<_, max}

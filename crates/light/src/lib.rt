@@ -1,5 +1,5 @@
-// The ambient light of a frame: row by row the dark values by the window minimum and a count for each of their 256 values, then the cutoff and the
-// brightest candidate.
+// The ambient light of a frame: row by row the dark values by the window minimum and a count for each of 257 levels, then the cutoff and the
+// brightest candidate. A pixel's level is one more than its dark value, and 0 where it is hidden: so hidden pixels come after all others.
 ghost use mathlib.Core.Path.{_≡_};
 ghost use mathlib.Core.Bool.{cond, _&&_, _||_};
 ghost use mathlib.Core.List.{List};
@@ -13,7 +13,7 @@ ghost use Rattle.rules.specs.Buffers.{pixelAt};
 ghost use Rattle.rules.specs.Good.{GoodSize, AcceptedLight};
 ghost use Rattle.planes.specs.Cells.{SameFrom};
 ghost use Rattle.columns.specs.Down.{RowIs};
-ghost use Rattle.light.specs.Steps.{value, ByteEntries, Starts, Below, hits, lane, Few, joined, atLeast, CutAt, next, Walked, Walkable, Chosen, Topped, leastAlong, RowPut, DarkTo, Darkened, Picked, Finds};
+ghost use Rattle.light.specs.Steps.{value, leastBy, levelBy, Levels, Starts, Below, hits, lane, Few, joined, atLeast, CutAt, next, Walked, Walkable, Chosen, Topped, leastAlong, RowPut, DarkTo, Darkened, Picked, Finds};
 use rules::Rgb;
 use rules::Settings;
 use rules::Size;
@@ -61,20 +61,33 @@ fn colour(frame: &[u8], p: usize) -> Rgb
     Rgb { r: r, g: g, b: b }
 }
 
+// A least byte, or 255 at a pixel that the byte m hides: it lowers no minimum.
+fn least_by(m: u8, d: u64) -> u16
+    requires { ⌜ d ≤ 255 ⌝ }
+    ensures { λ r. ⌜ r ≡ leastBy m d ⌝ }
+{
+    let least = d as u16;
+    if m == 0 { 255 } else { least }
+}
+
 // The least bytes of n pixels from position p of the frame on.
-fn least_row(row: &mut [u16], frame: &[u8], p: usize, n: usize)
-    requires { ⌜ (n ≤ length (now row)) × (3 * (p + n) ≤ length (now frame)) ⌝ }
-    ensures { λ _. ⌜ ((x : ℕ) → x < n → getD (now (row .exit)) x 0 ≡ darkest (pixelAt (now (frame .entry)) (p + x))) ⌝ }
+fn least_row(row: &mut [u16], mask: &[u8], frame: &[u8], p: usize, n: usize)
+    requires { ⌜ (n ≤ length (now row)) × (p + n ≤ length (now mask)) × (3 * (p + n) ≤ length (now frame)) ⌝ }
+    ensures { λ _. ⌜ ((x : ℕ) → x < n → getD (now (row .exit)) x 0 ≡ leastBy (getD (now (mask .entry)) (p + x) 0) (darkest (pixelAt (now (frame .entry)) (p + x)))) ⌝ }
 {
     let mut x = 0;
     while x < n {
-        row[x] = pixel::darkest_of(pixel::pixel_at(frame, p + x)) as u16;
+        row[x] = least_by(
+            mask[p + x],
+            pixel::darkest_of(pixel::pixel_at(frame, p + x)),
+        );
         x += 1;
     }
 }
 
 // Step i of the minimum has row i of the frame, if there is one: its least bytes, each over its window along the row.
 fn take_row(
+    mask: &[u8],
     frame: &[u8],
     z: Size,
     i: usize,
@@ -83,20 +96,41 @@ fn take_row(
     p: &mut [u16],
     q: &mut [u16],
 )
-    requires { ⌜ GoodSize (described z) × (s ≤ 30) × (length (now frame) ≡ 3 * (z .w * z .h)) ⌝ }
+    requires { ⌜ GoodSize (described z) × (s ≤ 30) × (length (now mask) ≡ z .w * z .h) × (length (now frame) ≡ 3 * (z .w * z .h)) ⌝ }
     requires { ⌜ (length (now row) ≡ 1024) × (length (now p) ≡ 1024) × (length (now q) ≡ 1024) ⌝ }
-    ensures { λ _. ⌜ (i < z .h → RowIs (now (row .exit)) (leastAlong (described z) s (now (frame .entry))) i (z .w)) ⌝ }
+    ensures { λ _. ⌜ (i < z .h → RowIs (now (row .exit)) (leastAlong (described z) s (now (mask .entry)) (now (frame .entry))) i (z .w)) ⌝ }
 {
     let w = z.w;
     let h = z.h;
     if h <= i {
         return;
     }
-    least_row(row, frame, i * w, w);
+    least_row(row, mask, frame, i * w, w);
     windows::shrink(row, w, s, p, q);
 }
 
-// The dark values d of n pixels go to the work area, from `to` on.
+// The level of a pixel of dark value d, 0 where the byte m hides it.
+fn level_by(m: u8, d: u16) -> u16
+    requires { ⌜ d ≤ 255 ⌝ }
+    ensures { λ r. ⌜ r ≡ levelBy m d ⌝ }
+{
+    let level = d + 1;
+    if m == 0 { 0 } else { level }
+}
+
+// The levels of n pixels from position p of the frame on, from their dark values d.
+fn level_row(levels: &mut [u16], mask: &[u8], p: usize, n: usize, d: &[u16])
+    requires { ⌜ (n ≤ length (now levels)) × (p + n ≤ length (now mask)) × (n ≤ length (now d)) × ((x : ℕ) → x < n → getD (now d) x 0 ≤ 255) ⌝ }
+    ensures { λ _. ⌜ ((x : ℕ) → x < n → getD (now (levels .exit)) x 0 ≡ levelBy (getD (now (mask .entry)) (p + x) 0) (getD (now (d .entry)) x 0)) ⌝ }
+{
+    let mut x = 0;
+    while x < n {
+        levels[x] = level_by(mask[p + x], d[x]);
+        x += 1;
+    }
+}
+
+// The levels d of n pixels go to the work area, from `to` on.
 fn store_row(work: &mut [i64], to: usize, n: usize, d: &[u16])
     requires { ⌜ (to + n ≤ length (now work)) × (n ≤ length (now d)) ⌝ }
     ensures { λ _. ⌜ RowPut (now (work .entry)) (now (work .exit)) to (λ x. getD (now (d .entry)) x 0) n ⌝ }
@@ -108,12 +142,12 @@ fn store_row(work: &mut [i64], to: usize, n: usize, d: &[u16])
     }
 }
 
-// The dark values d of the n positions from `first` on are counted. Each value has four lanes, and neighbours are counted in different ones, so that
+// The levels d of the n positions from `first` on are counted. Each level has four lanes, and neighbours are counted in different ones, so that
 // equal neighbours do not wait for each other.
 fn tally_row(d: &[u16], first: usize, n: usize, apart: &mut [u32])
-    requires { ⌜ (n ≤ length (now d)) × (first + n ≤ 262144) × ((x : ℕ) → x < n → getD (now d) x 0 ≤ 255) × (length (now apart) ≡ 1024) × Below first (now apart) ⌝ }
-    ensures { λ _. ⌜ ((D : ℕ → ℕ) → Starts (hits (lane D) first) 1024 (now (apart .entry)) → ((x : ℕ) → x < n → getD (now (d .entry)) x 0 ≡ D (first + x))
-        → Starts (hits (lane D) (first + n)) 1024 (now (apart .exit))) ⌝ }
+    requires { ⌜ (n ≤ length (now d)) × (first + n ≤ 262144) × ((x : ℕ) → x < n → getD (now d) x 0 ≤ 256) × (length (now apart) ≡ 1028) × Below first (now apart) ⌝ }
+    ensures { λ _. ⌜ ((D : ℕ → ℕ) → Starts (hits (lane D) first) 1028 (now (apart .entry)) → ((x : ℕ) → x < n → getD (now (d .entry)) x 0 ≡ D (first + x))
+        → Starts (hits (lane D) (first + n)) 1028 (now (apart .exit))) ⌝ }
 {
     let mut x = 0;
     while x < n {
@@ -143,20 +177,22 @@ fn greatest(d: &[u16], n: usize) -> u16
     m
 }
 
-// Step i of the minimum gives row i - s of the frame, from step s on: its dark values are stored and counted, and the greatest is noted.
+// Step i of the minimum gives row i - s of the frame, from step s on: its levels are stored and counted, and the greatest is noted.
 fn give_row(
     work: &mut [i64],
+    mask: &[u8],
     z: Size,
     i: usize,
     s: usize,
     d: &[u16],
+    levels: &mut [u16],
     apart: &mut [u32],
     tops: &mut [u16],
 )
-    requires { ⌜ GoodSize (described z) × (i < z .h + s) × (z .w * z .h ≤ length (now work)) × (length (now apart) ≡ 1024) × (length (now tops) ≡ 1024) ⌝ }
+    requires { ⌜ GoodSize (described z) × (i < z .h + s) × (z .w * z .h ≤ length (now work)) × (length (now mask) ≡ z .w * z .h) × (length (now levels) ≡ 1024) × (length (now apart) ≡ 1028) × (length (now tops) ≡ 1024) ⌝ }
     requires { ⌜ (z .w ≤ length (now d)) × (s ≤ i → (x : ℕ) → x < z .w → getD (now d) x 0 ≤ 255) × Below ((i - s) * z .w) (now apart) ⌝ }
     ensures { λ _. ⌜ ((D : ℕ → ℕ) (l : List ℤ) → DarkTo (described z) D l (now (work .entry)) (now (apart .entry)) (now (tops .entry)) (i - s)
-        → (s ≤ i → (x : ℕ) → x < z .w → getD (now (d .entry)) x 0 ≡ D ((i - s) * z .w + x))
+        → (s ≤ i → (x : ℕ) → x < z .w → levelBy (getD (now (mask .entry)) ((i - s) * z .w + x) 0) (getD (now (d .entry)) x 0) ≡ D ((i - s) * z .w + x))
         → DarkTo (described z) D l (now (work .exit)) (now (apart .exit)) (now (tops .exit)) (i + 1 - s)) ⌝ }
 {
     if i < s {
@@ -165,15 +201,24 @@ fn give_row(
     let w = z.w;
     let y = i - s;
     let first = y * w;
-    store_row(work, first, w, d);
-    tally_row(d, first, w, apart);
-    tops[y] = greatest(d, w);
+    level_row(levels, mask, first, w, d);
+    store_row(work, first, w, levels);
+    tally_row(levels, first, w, apart);
+    tops[y] = greatest(levels, w);
 }
 
-// The dark value of each pixel, at the work area's start, with the counts in their lanes, all 0 before, and a bound of each row.
-fn darks(z: Size, k: Settings, frame: &[u8], work: &mut [i64], apart: &mut [u32], tops: &mut [u16])
-    requires { ⌜ AcceptedLight z k (length (now frame)) (length (now work)) × (length (now apart) ≡ 1024) × (length (now tops) ≡ 1024) × Starts (λ v. 0) 1024 (now apart) ⌝ }
-    ensures dark { λ _. ⌜ Darkened z k (now (frame .entry)) (now (work .exit)) (now (apart .exit)) (now (tops .exit)) ⌝ }
+// The level of each pixel, at the work area's start, with the counts in their lanes, all 0 before, and a bound of each row.
+fn darks(
+    z: Size,
+    k: Settings,
+    mask: &[u8],
+    frame: &[u8],
+    work: &mut [i64],
+    apart: &mut [u32],
+    tops: &mut [u16],
+)
+    requires { ⌜ AcceptedLight z k (now mask) (length (now frame)) (length (now work)) × (length (now apart) ≡ 1028) × (length (now tops) ≡ 1024) × Starts (λ v. 0) 1028 (now apart) ⌝ }
+    ensures dark { λ _. ⌜ Darkened z k (now (mask .entry)) (now (frame .entry)) (now (work .exit)) (now (apart .exit)) (now (tops .exit)) ⌝ }
     ensures rest { λ _. ⌜ SameFrom (now (work .entry)) (now (work .exit)) (z .w * z .h) ⌝ }
 {
     let mut row = [0u16; 1024];
@@ -182,12 +227,13 @@ fn darks(z: Size, k: Settings, frame: &[u8], work: &mut [i64], apart: &mut [u32]
     let mut store = [0u16; 62464];
     let mut ahead = [0u16; 1024];
     let mut out = [0u16; 1024];
+    let mut levels = [0u16; 1024];
     let w = z.w;
     let h = z.h;
     let s = k.s;
     let mut i = 0;
     while i < h + s {
-        take_row(frame, z, i, s, &mut row[..], &mut p[..], &mut q[..]);
+        take_row(mask, frame, z, i, s, &mut row[..], &mut p[..], &mut q[..]);
         columns::down(
             &row[..],
             i,
@@ -198,14 +244,14 @@ fn darks(z: Size, k: Settings, frame: &[u8], work: &mut [i64], apart: &mut [u32]
             &mut ahead[..],
             &mut out[..],
         );
-        give_row(work, z, i, s, &out[..], apart, tops);
+        give_row(work, mask, z, i, s, &out[..], &mut levels[..], apart, tops);
         i += 1;
     }
 }
 
-// The dark value at p.
+// The level at p.
 fn level(work: &[i64], p: usize) -> usize
-    requires { ⌜ (p < length (now work)) × (getD (now work) p (pos 0) ≡ pos (value (now work) p)) × (value (now work) p ≤ 255) ⌝ }
+    requires { ⌜ (p < length (now work)) × (getD (now work) p (pos 0) ≡ pos (value (now work) p)) × (value (now work) p ≤ 256) ⌝ }
     ensures { λ r. ⌜ r ≡ value (now (work .entry)) p ⌝ }
 {
     work[p] as usize
@@ -213,33 +259,33 @@ fn level(work: &[i64], p: usize) -> usize
 
 // What the four lanes of v hold together.
 fn together(apart: &[u32], v: usize) -> u32
-    requires { ⌜ (length (now apart) ≡ 1024) × (v < 256) × Few (now apart) ⌝ }
+    requires { ⌜ (length (now apart) ≡ 1028) × (v < 257) × Few (now apart) ⌝ }
     ensures { λ r. ⌜ r ≡ joined (now (apart .entry)) v ⌝ }
 {
     let i = 4 * v;
     apart[i] + apart[i + 1] + apart[i + 2] + apart[i + 3]
 }
 
-// The count of each value, from its four lanes.
+// The count of each level, from its four lanes.
 fn join(apart: &[u32], counts: &mut [u32])
-    requires { ⌜ (length (now apart) ≡ 1024) × (length (now counts) ≡ 256) × Few (now apart) ⌝ }
-    ensures { λ _. ⌜ Starts (joined (now (apart .entry))) 256 (now (counts .exit)) ⌝ }
+    requires { ⌜ (length (now apart) ≡ 1028) × (length (now counts) ≡ 257) × Few (now apart) ⌝ }
+    ensures { λ _. ⌜ Starts (joined (now (apart .entry))) 257 (now (counts .exit)) ⌝ }
 {
     let mut v = 0;
-    while v < 256 {
+    while v < 257 {
         counts[v] = together(apart, v);
         v += 1;
     }
 }
 
-// The greatest value that at least m pixels are at or above. 256 counts of 32 bits say at most 2^40.
+// The greatest value that at least m pixels are at or above. 257 counts of 32 bits say less than 2^41.
 fn cutoff(counts: &[u32], m: usize) -> Cut
-    requires { ⌜ (length (now counts) ≡ 256) × (0 < m) × (m ≤ 1099511627776) × (m ≤ atLeast (now counts) 0) ⌝ }
+    requires { ⌜ (0 < length (now counts)) × (length (now counts) ≤ 257) × (0 < m) × (m ≤ 1099511627776) × (m ≤ atLeast (now counts) 0) ⌝ }
     ensures { λ r. ⌜ CutAt (now (counts .entry)) m r ⌝ }
 {
-    let mut v = 255;
+    let mut v = counts.len() - 1;
     let mut above = 0;
-    let mut next = whole(counts[255]);
+    let mut next = whole(counts[v]);
     while next < m {
         above = next;
         v -= 1;
@@ -251,7 +297,7 @@ fn cutoff(counts: &[u32], m: usize) -> Cut
     }
 }
 
-// Whether a pixel of dark value d is a candidate, after `seen` at the cutoff.
+// Whether a pixel of level d is a candidate, after `seen` at the cutoff.
 fn admits(d: usize, cut: usize, seen: usize, ties: usize) -> bool
     ensures { λ r. ⌜ r ≡ (ltb cut d || (eqb cut d && ltb seen ties)) ⌝ }
 {
@@ -264,7 +310,7 @@ fn admits(d: usize, cut: usize, seen: usize, ties: usize) -> bool
     seen < ties
 }
 
-// How many have been seen at the cutoff, with a pixel of dark value d.
+// How many have been seen at the cutoff, with a pixel of level d.
 fn seen_now(d: usize, cut: usize, seen: usize) -> usize
     requires { ⌜ seen < 4294967295 ⌝ }
     ensures { λ r. ⌜ r ≡ seen + cond (eqb cut d) 1 0 ⌝ }
@@ -322,7 +368,7 @@ fn walk_row(frame: &[u8], work: &[i64], first: usize, n: usize, cut: Cut, b: Wal
     }
 }
 
-// A row whose greatest dark value, `top`, is below the cutoff has no candidate and is passed over.
+// A row whose greatest level, `top`, is below the cutoff has no candidate and is passed over.
 fn choose_row(
     frame: &[u8],
     work: &[i64],
@@ -342,9 +388,9 @@ fn choose_row(
     walk_row(frame, work, first, n, cut, b)
 }
 
-// The position of the brightest candidate, the first on a tie. `tops` has a bound of each row's dark values.
+// The position of the brightest candidate, the first on a tie. `tops` has a bound of each row's levels.
 fn choose(frame: &[u8], work: &[i64], z: Size, cut: Cut, tops: &[u16]) -> usize
-    requires { ⌜ GoodSize (described z) × (3 * (z .w * z .h) ≤ length (now frame)) × (z .w * z .h ≤ length (now work)) × ByteEntries (z .w * z .h) (now work) ⌝ }
+    requires { ⌜ GoodSize (described z) × (3 * (z .w * z .h) ≤ length (now frame)) × (z .w * z .h ≤ length (now work)) × Levels (z .w * z .h) (now work) ⌝ }
     requires { ⌜ (z .h ≤ length (now tops)) × Topped (value (now work)) (z .w) (z .h) (now tops) ⌝ }
     ensures { λ r. ⌜ Chosen (now (frame .entry)) (now (work .entry)) (z .w * z .h) cut r ⌝ }
 {
@@ -371,30 +417,40 @@ fn candidates(n: usize, share: u64) -> usize
     if m < 1 { 1 } else { m }
 }
 
-// The position of the pixel that gives the light, from the dark values, their counts and their bounds.
-fn pick(z: Size, k: Settings, frame: &[u8], work: &[i64], apart: &[u32], tops: &[u16]) -> usize
-    requires { ⌜ AcceptedLight z k (length (now frame)) (length (now work)) × (length (now apart) ≡ 1024) × (length (now tops) ≡ 1024)
-        × Darkened z k (now frame) (now work) (now apart) (now tops) ⌝ }
-    ensures { λ r. ⌜ Picked z k (now (frame .entry)) r ⌝ }
+// The position of the pixel that gives the light, from the levels, their counts and their bounds.
+fn pick(
+    z: Size,
+    k: Settings,
+    mask: &[u8],
+    frame: &[u8],
+    work: &[i64],
+    apart: &[u32],
+    tops: &[u16],
+) -> usize
+    requires { ⌜ AcceptedLight z k (now mask) (length (now frame)) (length (now work)) × (length (now apart) ≡ 1028) × (length (now tops) ≡ 1024)
+        × Darkened z k (now mask) (now frame) (now work) (now apart) (now tops) ⌝ }
+    ensures { λ r. ⌜ Picked z k (now (mask .entry)) (now (frame .entry)) r ⌝ }
 {
-    let m = candidates(z.w * z.h, k.share);
-    let mut counts = [0u32; 256];
+    let mut counts = [0u32; 257];
     join(apart, &mut counts[..]);
+    let n = z.w * z.h;
+    let seen = n - whole(counts[0]);
+    let m = candidates(seen, k.share);
     let cut = cutoff(&counts[..], m);
     choose(frame, work, z, cut, tops)
 }
 
 // The light of a frame, for a call that is not refused. The work area is wiped.
-pub fn find(z: Size, k: Settings, frame: &[u8], work: &mut [i64]) -> Rgb
-    requires { ⌜ AcceptedLight z k (length (now frame)) (length (now work)) ⌝ }
-    ensures { λ r. ⌜ Finds z k (now (frame .entry)) (now (work .entry)) r (now (work .exit)) ⌝ }
+pub fn find(z: Size, k: Settings, mask: &[u8], frame: &[u8], work: &mut [i64]) -> Rgb
+    requires { ⌜ AcceptedLight z k (now mask) (length (now frame)) (length (now work)) ⌝ }
+    ensures { λ r. ⌜ Finds z k (now (mask .entry)) (now (frame .entry)) (now (work .entry)) r (now (work .exit)) ⌝ }
 {
     let w = z.w;
     let h = z.h;
-    let mut apart = [0u32; 1024];
+    let mut apart = [0u32; 1028];
     let mut tops = [0u16; 1024];
-    darks(z, k, frame, work, &mut apart[..], &mut tops[..]);
-    let p = pick(z, k, frame, &work[..], &apart[..], &tops[..]);
+    darks(z, k, mask, frame, work, &mut apart[..], &mut tops[..]);
+    let p = pick(z, k, mask, frame, &work[..], &apart[..], &tops[..]);
     planes::wipe(work, 8 * ((w + 1) * (h + 1)));
     colour(frame, p)
 }

@@ -1,5 +1,8 @@
 -- A box in a plane. Assumes nothing.
+use mathlib.Core.Path.{_≡_}
+use mathlib.Core.List.{List}
 use Prim.Native.Nat.{ℕ, _+_, _*_, _≤_, _<_}
+use lib.ListN.{length}
 use Rattle.rules.specs.Shape.{Shape}
 use Rattle.rules.specs.declared.Rect.{Rect}
 use Rattle.rules.specs.Box.{Fits}
@@ -23,6 +26,13 @@ pub record InPlane (v : View) : Type 0 where
   pub fits : Fits (whole v) (boxOf v) (v .top) (v .left)
   pub across : 0 < v .wide
   pub down : 0 < v .tall
+
+-- the plane of v is the box b of a frame, and the mask is the frame's
+pub record Framed (b v : View) (mask : List ℕ) : Type 0 where
+  pub box : InPlane b
+  pub wide : b .wide ≡ v .w
+  pub tall : b .tall ≡ v .h
+  pub bytes : length mask ≡ b .w * b .h
 
 -- the place in the plane of the first pixel of the box's row y
 abbrev pub rowStart : View → ℕ → ℕ

@@ -5,6 +5,7 @@ use mathlib.Core.Bool.{_||_}
 use mathlib.Core.List.{List}
 use Prim.Native.Nat.{ℕ, _*_, _≤_, _<_}
 use lib.ListN.{length, getD}
+use lib.IntN.{ℤ}
 use Rattle.rules.specs.Shape.{described, room}
 use Rattle.rules.specs.declared.Size.{Size}
 use Rattle.rules.specs.declared.Settings.{Settings}
@@ -12,25 +13,29 @@ use Rattle.rules.specs.declared.Rgb.{Rgb}
 use Rattle.rules.specs.declared.Rect.{Rect}
 use Rattle.rules.specs.Setup.{Setup, shape}
 use Rattle.rules.specs.Good.{GoodSize, GoodSettings, GoodLight, GoodRect, AcceptedLight}
-use Rattle.rules.specs.Refusals.{badFrame, badMap, badWork, refuseLight, refuseHaze, refuseBand}
-use Rattle.rules.specs.Promise.{Lent, noClear, noReplace}
-use Rattle.rules.proofs.Good.{neither, size-good, settings-good, light-good, frame-good, map-good, work-good, entries-good, rect-good, new-good, band-good}
+use Rattle.rules.specs.Refusals.{badFrame, badMap, badMask, badWork, badSeen, refuseHaze, refuseBand}
+use Rattle.rules.specs.Promise.{Lent, noLight, noClear, noReplace}
+use Rattle.rules.proofs.Good.{neither, size-good, settings-good, light-good, frame-good, map-good, mask-good, work-good, entries-good, rect-good, new-good, band-good}
 use Rattle.rules.proofs.Exactly.{light-exact, clear-exact, replace-exact, haze-exact, band-exact}
 
-pub light-accepted : (z : Size) (k : Settings) (frame work : ℕ) → refuseLight z k frame work ≡ 0 → AcceptedLight z k frame work
-light-accepted z k frame work e =
-    let n = light-exact z k frame work .free e in
+pub light-accepted : (z : Size) (k : Settings) (mask frame : List ℕ) (work : List ℤ) → noLight z k mask frame work ≡ 0 → AcceptedLight z k mask (length frame) (length work)
+light-accepted z k mask frame work e =
+    let n = light-exact z k (length mask) (badSeen mask) (length frame) (length work) .free e in
+    let four = neither (badMask z (length mask)) (badWork z (length work)) (n .1 .1 .1 .0) in
     record {
       size = size-good z (n .0);
       settings = settings-good k (n .1 .0);
-      bytes = frame-good z frame (n .1 .1 .0);
-      space = work-good z work (n .1 .1 .1 .0);
+      shown = mask-good z (length mask) (four .0);
+      some = n .1 .1 .1 .1 .0;
+      bytes = frame-good z (length frame) (n .1 .1 .0);
+      space = work-good z (length work) (four .1);
     }
 
 pub record AcceptedClear (p : Setup) (l : Lent) : Type 0 where
   pub size : GoodSize (shape p)
   pub settings : GoodSettings (p .settings)
   pub light : GoodLight (p .light)
+  pub shown : length (p .mask) ≡ shape p .w * shape p .h
   pub bytes : length (l .frame) ≡ 3 * (shape p .w * shape p .h)
   pub entries : length (l .map) ≡ shape p .w * shape p .h
   pub colours : length (l .picture) ≡ 3 * (shape p .w * shape p .h)
@@ -40,15 +45,18 @@ pub clear-accepted : (p : Setup) (l : Lent) → noClear p l ≡ 0 → AcceptedCl
 clear-accepted p l e =
     let z = p .size in
     let n = clear-exact p l .free e in
-    let four = neither (badFrame z (length (l .picture)) || badMap z (length (l .map))) (badWork z (length (l .work))) (n .1 .1 .1 .0) in
-    let two = neither (badFrame z (length (l .picture))) (badMap z (length (l .map))) (four .0) in
+    let bytes = badMask z (length (p .mask)) || badFrame z (length (l .picture)) in
+    let four = neither (bytes || badMap z (length (l .map))) (badWork z (length (l .work))) (n .1 .1 .1 .0) in
+    let three = neither bytes (badMap z (length (l .map))) (four .0) in
+    let two = neither (badMask z (length (p .mask))) (badFrame z (length (l .picture))) (three .0) in
     record {
       size = size-good z (n .0);
       settings = settings-good (p .settings) (n .1 .0);
       light = light-good (p .light) (n .1 .1 .1 .1 .0);
       bytes = frame-good z (length (l .frame)) (n .1 .1 .0);
-      entries = map-good z (length (l .map)) (two .1);
-      colours = frame-good z (length (l .picture)) (two .0);
+      shown = mask-good z (length (p .mask)) (two .0);
+      entries = map-good z (length (l .map)) (three .1);
+      colours = frame-good z (length (l .picture)) (two .1);
       space = work-good z (length (l .work)) (four .1);
     }
 

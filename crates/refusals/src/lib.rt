@@ -2,9 +2,10 @@
 // good one.
 ghost use mathlib.Core.Path.{_≡_};
 ghost use mathlib.Core.Bool.{_||_};
+ghost use lib.ListN.{length};
 ghost use Rattle.rules.specs.Shape.{described};
 ghost use Rattle.rules.specs.Good.{GoodSize};
-ghost use Rattle.rules.specs.Refusals.{first, badFrame, badMap, badWork, refuseLight, refuseClear, refuseReplace, refuseHaze, refuseBand};
+ghost use Rattle.rules.specs.Refusals.{first, badFrame, badMap, badMask, badWork, badSeen, refuseLight, refuseClear, refuseReplace, refuseHaze, refuseBand};
 ghost use Rattle.refusals.specs.Past.{restReplace};
 use judge::either;
 use judge::first_of;
@@ -13,7 +14,9 @@ use judge::wrong_entries;
 use judge::wrong_frame;
 use judge::wrong_light;
 use judge::wrong_map;
+use judge::wrong_mask;
 use judge::wrong_rect;
+use judge::wrong_seen;
 use judge::wrong_settings;
 use judge::wrong_size;
 use judge::wrong_work;
@@ -22,44 +25,50 @@ use rules::Rgb;
 use rules::Settings;
 use rules::Size;
 
-pub fn refuse_light(z: Size, k: Settings, frame: usize, work: usize) -> u8
-    ensures { λ r. ⌜ r ≡ refuseLight z k frame work ⌝ }
+pub fn refuse_light(z: Size, k: Settings, mask: &[u8], frame: usize, work: usize) -> u8
+    ensures { λ r. ⌜ r ≡ refuseLight z k (length (now (mask .entry))) (badSeen (now (mask .entry))) frame work ⌝ }
 {
     if wrong_size(z) {
         return 1;
     }
     let settings = wrong_settings(k);
     let bytes = wrong_frame(z, frame);
-    let space = wrong_work(z, work);
-    first_of(settings, 2, bytes, 3, space, 4, false, 0)
+    let lengths = either(wrong_mask(z, mask.len()), wrong_work(z, work));
+    let n = first_of(settings, 2, bytes, 3, lengths, 4, false, 0);
+    if n != 0 {
+        return n;
+    }
+    if wrong_seen(mask) { 14 } else { 0 }
 }
 
 // What Clear and Replace are lent beside the frame: the test of 4.
-fn wrong_loan(z: Size, map: usize, picture: usize, work: usize) -> bool
+fn wrong_loan(z: Size, mask: usize, map: usize, picture: usize, work: usize) -> bool
     requires { ⌜ GoodSize (described z) ⌝ }
-    ensures { λ r. ⌜ r ≡ (badFrame z picture || badMap z map || badWork z work) ⌝ }
+    ensures { λ r. ⌜ r ≡ (badMask z mask || badFrame z picture || badMap z map || badWork z work) ⌝ }
 {
-    let pixels = either(wrong_frame(z, picture), wrong_map(z, map));
-    either(pixels, wrong_work(z, work))
+    let bytes = either(wrong_mask(z, mask), wrong_frame(z, picture));
+    let entries = either(bytes, wrong_map(z, map));
+    either(entries, wrong_work(z, work))
 }
 
 pub fn refuse_clear(
     z: Size,
     k: Settings,
     a: Rgb,
+    mask: usize,
     frame: usize,
     map: usize,
     picture: usize,
     work: usize,
 ) -> u8
-    ensures { λ r. ⌜ r ≡ refuseClear z k a frame map picture work ⌝ }
+    ensures { λ r. ⌜ r ≡ refuseClear z k a mask frame map picture work ⌝ }
 {
     if wrong_size(z) {
         return 1;
     }
     let settings = wrong_settings(k);
     let bytes = wrong_frame(z, frame);
-    let loan = wrong_loan(z, map, picture, work);
+    let loan = wrong_loan(z, mask, map, picture, work);
     let light = wrong_light(a);
     first_of(settings, 2, bytes, 3, loan, 4, light, 5)
 }
@@ -81,14 +90,15 @@ pub fn refuse_replace(
     a: Rgb,
     c: Rect,
     new: usize,
+    mask: usize,
     frame: usize,
     map: usize,
     picture: usize,
     work: usize,
 ) -> u8
-    ensures { λ r. ⌜ r ≡ refuseReplace z k a c new frame map picture work ⌝ }
+    ensures { λ r. ⌜ r ≡ refuseReplace z k a c new mask frame map picture work ⌝ }
 {
-    let n = refuse_clear(z, k, a, frame, map, picture, work);
+    let n = refuse_clear(z, k, a, mask, frame, map, picture, work);
     if n != 0 {
         return n;
     }

@@ -9,7 +9,7 @@ use native.Mathlib.Omega.{arith}
 use Rattle.rules.specs.Shape.{Shape}
 use Rattle.rules.specs.declared.Settings.{Settings}
 use Rattle.rules.specs.declared.Rgb.{Rgb}
-use Rattle.rules.specs.Window.{Plane, from, flat, low, many, around, square, window}
+use Rattle.rules.specs.Window.{Plane, Shown, alike, seenOf, from, flat, low, many, around, square, window}
 use Rattle.rules.specs.Transmission.{leastRatio, coarse, sample, line, fit}
 use Rattle.rules.proofs.Local.{Within, Local, from-cong, window-local}
 use Rattle.rules.specs.Box.{part, Fits, Sees}
@@ -32,10 +32,10 @@ around-each : {A : Type 0} (end q p : ℕ) (f g : ℕ → A) → ((i : ℕ) → 
 around-each end q p f g h = from-cong (low q p) (many end q p) f g (λ i _ _. h i)
 
 module _ (z b : Shape) (top left : ℕ) (fits : Fits z b top left) where
-  pub window-box : {A : Type 0} (q : ℕ) (f : Plane A) (y x : ℕ) → Sees z b top left q y x → window z q f (top + y) (left + x) ≡ window b q (part top left f) y x
+  pub window-box : {A : Type 0} (q : ℕ) (f : Plane (Shown A)) (y x : ℕ) → Sees z b top left q y x → window z q f (top + y) (left + x) ≡ window b q (part top left f) y x
   unfolding window square
-  window-box q f y x s =
-      ap flat
+  window-box {A} q f y x s =
+      ap (λ (l : List (List (Shown A))). seenOf (flat l))
       (around-box (z .h) (b .h) top q y (λ v. around (z .w) q (left + x) (λ u. f v u)) (fits .rows) (s .row) (s .up) (s .down)
       ∙ around-each (b .h) q y _ _ (λ v. around-box (z .w) (b .w) left q x (λ u. f (top + v) u) (fits .columns) (s .column) (s .west) (s .east)))
 
@@ -59,7 +59,7 @@ module _ (z b : Shape) (top left : ℕ) (fits : Fits z b top left) where
   module _ (k : Settings) (a : Rgb) where
     pub coarse-box : Boxed (k .s) (λ z. coarse z k a)
     unfolding coarse
-    coarse-box f y x s = rw (window-box (k .s) (λ v u. leastRatio a (f v u)) y x s)
+    coarse-box f y x s = rw (window-box (k .s) (λ v u. alike (leastRatio a) (f v u)) y x s)
 
     pub sample-box : Boxed (k .s) (λ z. sample z k a)
     unfolding sample
@@ -68,7 +68,7 @@ module _ (z b : Shape) (top left : ℕ) (fits : Fits z b top left) where
     pub fit-box : Boxed (k .s + k .r) (λ z. fit z k a)
     unfolding fit
     fit-box f y x s =
-        ap (line (k .e)) (boxed-after (k .s) (k .r) (λ z. sample z k a) (λ z. window z (k .r)) sample-box (window-box (k .r)) (window-local b (k .r)) f y x s)
+        cc (boxed-after (k .s) (k .r) (λ z. sample z k a) (λ z. window z (k .r)) sample-box (window-box (k .r)) (window-local b (k .r)) f y x s)
 
 -- ---- the frame is a box in itself
 

@@ -1,10 +1,13 @@
--- What is written to a buffer is read from it again, at each pixel of the frame; and planes that agree in the frame are written alike.
--- Assumes nothing.
+-- What is written to a buffer is read from it again, at each pixel of the frame; and planes that agree in the frame are written alike. A pixel is seen
+-- exactly where the mask's byte is not 0, and frames that agree at a pixel agree there under any mask. Assumes nothing.
 use mathlib.Core.Path.{_≡_, refl, ap, ap₂, _∙_, sym}
+use mathlib.Core.Bool.{true, false, not}
 use mathlib.Core.List.{List}
 use Prim.Native.Nat.{ℕ, zero, suc, _+_, _*_, _/_, _%_, _≤_, _<_}
 use native.Mathlib.Nat.{mod-lt, div-lt-iff-lt-mul, div-add-mod', add-zero}
 use native.Mathlib.Omega.{arith}
+use lib.Dec.{eqb}
+use borrow.Author.Tests.{eq-eqb, ne-eqb}
 use lib.ListN.{length, getD, set}
 use lib.Seq.{ext-getD, getD-set-same, getD-set-other}
 use native.Mathlib.Decide.{decLt}
@@ -13,8 +16,8 @@ use Rattle.rules.specs.Shape.{Shape}
 use Rattle.rules.specs.declared.Rgb.{Rgb}
 use Rattle.rules.specs.Window.{Plane, from}
 use Rattle.rules.specs.Light.{at}
-use Rattle.rules.specs.Buffers.{pixels, channel, bytes, values, entries}
-use Rattle.rules.proofs.Local.{from-cong, from-length}
+use Rattle.rules.specs.Buffers.{pixelAt, pixels, seenIn, masked, channel, bytes, values, entries}
+use Rattle.rules.proofs.Local.{Agree, from-cong, from-length}
 
 from-getD′ : {A : Type 0} (a n : ℕ) (f : ℕ → A) (i : ℕ) (d : A) → i < n → getD (from a n f) i d ≡ f (a + i)
 from-getD′ a zero f i d h = absurd (let z : 1 ≤ 0 = omega arith in omega arith)
@@ -117,6 +120,50 @@ bytes-pixels z l n =
     (λ k h.
     let e : k ≡ 3 * (k / 3) + k % 3 = omega arith in
     ap (λ (i : ℕ). getD l i 0) e ∙ byte-of l (k / 3) (k % 3) (omega arith) ∙ ap (channel (k % 3)) (sym (at-pixels z l (k / 3))))
+
+-- ---- a mask
+
+-- the byte at position p, and the pixel there, seen or hidden
+pub at-seen : (z : Shape) (mask : List ℕ) (p : ℕ) → at z (seenIn z mask) p ≡ not (eqb (getD mask p 0) 0)
+unfolding seenIn
+at-seen z mask p = rw (div-add-mod' p (z .w))
+
+pub at-masked : (z : Shape) (mask frame : List ℕ) (p : ℕ) → at z (masked z mask frame) p ≡ record { seen = not (eqb (getD mask p 0) 0); value = pixelAt frame p }
+unfolding masked
+at-masked z mask frame p = cc (at-seen z mask p, at-pixels z frame p)
+
+-- any byte but 0 is that of a seen pixel
+pub seen-byte : (z : Shape) (mask : List ℕ) (y x : ℕ) → (getD mask (y * z .w + x) 0 ≡ 0 → ⊥) → seenIn z mask y x ≡ true
+unfolding seenIn
+seen-byte z mask y x h = ap not (ne-eqb (getD mask (y * z .w + x) 0) 0 h)
+
+pub hidden-byte : (z : Shape) (mask : List ℕ) (y x : ℕ) → getD mask (y * z .w + x) 0 ≡ 0 → seenIn z mask y x ≡ false
+unfolding seenIn
+hidden-byte z mask y x h = ap not (eq-eqb (getD mask (y * z .w + x) 0) 0 h)
+
+-- the two halves of a pixel under a mask
+pub masked-seen : (z : Shape) (mask frame : List ℕ) (y x : ℕ) → masked z mask frame y x .seen ≡ seenIn z mask y x
+unfolding masked
+masked-seen z mask frame y x = refl
+
+pub masked-value : (z : Shape) (mask frame : List ℕ) (y x : ℕ) → masked z mask frame y x .value ≡ pixels z frame y x
+unfolding masked
+masked-value z mask frame y x = refl
+
+-- what is written is read again, seen where the mask says
+pub masked-bytes : (z : Shape) (mask : List ℕ) (f : Plane Rgb) (y x : ℕ) → y < z .h → x < z .w → masked z mask (bytes z f) y x ≡ record { seen = seenIn z mask y x; value = f y x }
+unfolding masked
+masked-bytes z mask f y x hy hx = cc (pixels-bytes z f y x hy hx)
+
+-- frames that agree at the pixels about (y, x) agree there under the same mask
+pub masked-agree :
+    (z : Shape) (mask : List ℕ) (q y x : ℕ) (frame other : List ℕ)
+    → Agree z q y x (pixels z frame) (pixels z other)
+    → Agree z q y x (masked z mask frame) (masked z mask other)
+unfolding masked
+masked-agree z mask q y x frame other h v u w = cc (h v u w)
+
+-- ---- a loop that fills a list
 
 -- one more element written: what a loop that fills a list from the front keeps
 pub wrote : (g : ℕ → ℕ) (l : List ℕ) (p v : ℕ) → p < length l → ((k : ℕ) → k < p → getD l k 0 ≡ g k) → v ≡ g p → (k : ℕ) → k < p + 1 → getD (set l p v) k 0 ≡ g k

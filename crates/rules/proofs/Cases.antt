@@ -1,5 +1,5 @@
--- P1 to P11 and our own rows: one statement over the whole table. It is computed as one test, which is quick to see that a wrong definition fails it, and the test
--- means that each row has what is wanted. Assumes nothing.
+-- P1 to P11 and our own rows: one statement over the whole table, and one over the rows under a mask. Each is computed as one test, which is quick to see that
+-- a wrong definition fails it, and the test means that each row has what is wanted. Assumes nothing.
 use mathlib.Core.Path.{_≡_, refl, sym, ap, ap₂, _∙_}
 use mathlib.Core.Bool.{Bool, true, false, _&&_, true≢false}
 use mathlib.Core.List.{List, [], _∷_, map}
@@ -11,11 +11,12 @@ use Rattle.rules.proofs.Near.{apart}
 use lib.Ieee.{div, ofInt, toBits}
 use Rattle.rules.specs.Window.{square, window}
 use Rattle.rules.specs.Light.{dark, rank, candidates, light}
-use Rattle.rules.specs.Transmission.{coarse, sample, line, fit, refine, refined}
+use Rattle.rules.specs.Transmission.{coarse, sample, line, fit, refine, refined, mapEntry}
 use Rattle.rules.specs.Picture.{recover, recover3, cleared, haze3, quotient, figure}
-use Rattle.rules.specs.Buffers.{pixels, bytes, values, entries, near, patch, placed, hazed, clear, replace}
-use Rattle.rules.specs.Refusals.{badSize, badSettings, badFrame, badMap, badWork, badLight, badRect, badBand, badNew, badEntries, refuseLight, refuseClear, refuseReplace, refuseHaze, refuseBand}
+use Rattle.rules.specs.Buffers.{pixels, seenIn, masked, bytes, values, entries, near, patch, placed, hazed, clear, replace}
+use Rattle.rules.specs.Refusals.{badSize, badSettings, badFrame, badMap, badMask, badWork, badLight, badRect, badBand, badNew, badEntries, badSeen, refuseLight, refuseClear, refuseReplace, refuseHaze, refuseBand}
 use Rattle.rules.specs.Cases.{Row, table}
+use Rattle.rules.specs.CasesMask.{maskTable}
 
 -- ---- a row that agrees has what is wanted: a test that is computed, and what it means
 
@@ -53,11 +54,18 @@ agree-is (c ∷ t) e =
     let h = apart (alike (c .got) (c .want)) (agree t) e in
     ap₂ (λ (a : List ℤ) (b : List (List ℤ)). a ∷ b) (alike-is (c .got) (c .want) (h .0)) (agree-is t (h .1))
 
--- ---- the table
+-- ---- the two tables
 
 computed : agree table ≡ true
-unfolding table window square dark rank candidates light coarse sample line fit refine refined recover recover3 cleared haze3 quotient figure pixels bytes values entries near patch placed hazed clear replace div ofInt toBits badSize badSettings badFrame badMap badWork badLight badRect badBand badNew badEntries refuseLight refuseClear refuseReplace refuseHaze refuseBand
+unfolding table window square dark rank candidates light coarse sample line fit refine refined mapEntry recover recover3 cleared haze3 quotient figure pixels seenIn masked bytes values entries near patch placed hazed clear replace div ofInt toBits badSize badSettings badFrame badMap badMask badWork badLight badRect badBand badNew badEntries badSeen refuseLight refuseClear refuseReplace refuseHaze refuseBand
 computed = refl
+
+computed-masked : agree maskTable ≡ true
+unfolding maskTable window square dark rank candidates light coarse sample line fit refine refined mapEntry recover recover3 cleared pixels seenIn masked bytes values entries near patch placed clear replace badSize badSettings badFrame badMap badMask badWork badLight badRect badNew badSeen refuseLight refuseClear refuseReplace
+computed-masked = refl
 
 pub cases : map (λ (c : Row). c .got) table ≡ map (λ (c : Row). c .want) table
 cases = agree-is table computed
+
+pub cases-masked : map (λ (c : Row). c .got) maskTable ≡ map (λ (c : Row). c .want) maskTable
+cases-masked = agree-is maskTable computed-masked

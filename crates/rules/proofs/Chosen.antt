@@ -1,31 +1,31 @@
--- Which pixel gives the light: a candidate that no candidate outshines in R+G+B, the lowest position of those that shine as much (`Chosen`). For a
--- good size and share there is one (`light-chosen`), it is the only one (`chosen-one`), and the light is its colour, with 1 for a channel of 0. So it is
--- of each call that keeps its promise (`lights-chosen`). Assumes nothing.
+-- Which pixel gives the light: a candidate that no candidate outshines in R+G+B, the lowest position of those that shine as much (`Chosen`). Where a
+-- pixel is seen and the share is good there is one (`light-chosen`), it is the only one (`chosen-one`) and a seen pixel (`chosen-seen`), and the light is
+-- its colour, with 1 for a channel of 0. So it is of each call that keeps its promise (`lights-chosen`). Assumes nothing.
 use mathlib.Core.Path.{_≡_, refl, sym, ap, _∙_}
-use mathlib.Core.Bool.{Bool, true, false, cond}
+use mathlib.Core.Bool.{Bool, true, false, not, cond}
 use mathlib.Core.List.{List, [], _∷_}
-use Prim.Native.Nat.{ℕ, zero, suc, _+_, _*_, _/_, _%_, _≤_, _<_, max}
-use native.Mathlib.Nat.{mul-pos}
+use Prim.Native.Nat.{ℕ, suc, _+_, _*_, _≤_, _<_}
 use native.Mathlib.Omega.{arith}
-use lib.ListN.{length}
+use lib.ListN.{length, getD}
 use lib.Dec.{ltb}
-use borrow.Author.Tests.{ltb-true, ltb-false}
+use borrow.Author.Tests.{ltb-true, ltb-false, ne-eqb}
 use lib.IntN.{ℤ}
 use Rattle.rules.specs.Shape.{Shape, described}
 use Rattle.rules.specs.declared.Size.{Size}
 use Rattle.rules.specs.declared.Settings.{Settings}
 use Rattle.rules.specs.declared.Rgb.{Rgb}
 use Rattle.rules.specs.declared.Found.the-variants as found
-use Rattle.rules.specs.Window.{Plane}
-use Rattle.rules.specs.Buffers.{pixels}
-use Rattle.rules.specs.Refusals.{refuseLight}
-use Rattle.rules.specs.Promise.{foundSaid, Lights}
-use Rattle.rules.proofs.Good.{size-good, settings-good}
+use Rattle.rules.specs.Window.{Plane, Shown}
+use Rattle.rules.specs.Buffers.{masked}
+use Rattle.rules.specs.Refusals.{badMask, badWork, badSeen}
+use Rattle.rules.specs.Promise.{foundSaid, noLight, Lights}
+use Rattle.rules.proofs.Buffers.{at-masked}
+use Rattle.rules.proofs.Good.{SomeSeen, neither, settings-good, mask-good, seen-good}
 use Rattle.rules.proofs.Exactly.{light-exact}
 use Rattle.rules.proofs.Answers.{said-found}
-use Rattle.rules.specs.Light.{at, m, candidates, best, brightest, light}
+use Rattle.rules.specs.Light.{at, places, candidates, best, brightest, light}
 use Rattle.rules.proofs.Order.{In, here, later, Rising, rising-less}
-use Rattle.rules.proofs.Candidates.{m-le, candidates-many, candidates-rising}
+use Rattle.rules.proofs.Candidates.{m-le, places-some, candidates-many, candidates-rising, candidates-seen}
 
 -- ---- the first of the greatest, in any rising list
 
@@ -96,9 +96,27 @@ best-most g p (q ∷ l) r = go (ltb (g p) (g q)) refl (best-most g q l (r .1)) (
     go true e i j = more-front g p q (best g q l) l (ltb-true (g p) (g q) e) i
     go false e i j = more-next g p q (best g p l) l (ltb-false (g p) (g q) e) (let h = r .0 in omega arith) j
 
-brightest-most : (g : ℕ → ℕ) (l : List ℕ) → 0 < length l → Rising 0 l → Most g l (brightest g l)
+pub brightest-most : (g : ℕ → ℕ) (l : List ℕ) → 0 < length l → Rising 0 l → Most g l (brightest g l)
 brightest-most g [] h r = absurd (omega arith)
 brightest-most g (p ∷ l) h r = best-most g p l (r .1)
+
+-- it hangs on the values of the list's members alone
+best-same : (g g′ : ℕ → ℕ) (p : ℕ) (l : List ℕ) → ((o : ℕ) → In o (p ∷ l) → g o ≡ g′ o) → best g p l ≡ best g′ p l
+best-same g g′ p [] h = refl
+best-same g g′ p (o ∷ l) h =
+    rw (← h p (here refl), ← h o (later (here refl))) (go (ltb (g p) (g o)) (best-same g g′ o l (λ q i. h q (later i))) (best-same g g′ p l less))
+  where
+    less : (q : ℕ) → In q (p ∷ l) → g q ≡ g′ q
+    less q (here e) = h q (here e)
+    less q (later i) = h q (later (later i))
+
+    go : (b : Bool) → best g o l ≡ best g′ o l → best g p l ≡ best g′ p l → best g (cond b o p) l ≡ best g′ (cond b o p) l
+    go true e f = e
+    go false e f = f
+
+pub brightest-same : (g g′ : ℕ → ℕ) (l : List ℕ) → ((o : ℕ) → In o l → g o ≡ g′ o) → brightest g l ≡ brightest g′ l
+brightest-same g g′ [] h = refl
+brightest-same g g′ (p ∷ l) h = best-same g g′ p l h
 
 -- ---- the light
 
@@ -107,22 +125,22 @@ pub record Lifted (i a : ℕ) : Type 0 where
   pub none : i ≡ 0 → a ≡ 1
   pub some : 0 < i → a ≡ i
 
-module _ (z : Shape) (k : Settings) (f : Plane Rgb) where
+module _ (z : Shape) (k : Settings) (f : Plane (Shown Rgb)) where
   -- R+G+B at a position
   abbrev pub shine : ℕ → ℕ
-  shine p = f (p / z .w) (p % z .w) .r + f (p / z .w) (p % z .w) .g + f (p / z .w) (p % z .w) .b
+  shine p = at z f p .value .r + at z f p .value .g + at z f p .value .b
 
   -- the light is that of position p
   pub record Chosen (p : ℕ) (a : Rgb) : Type 0 where
     pub candidate : Most shine (candidates z k f) p
-    pub red : Lifted (f (p / z .w) (p % z .w) .r) (a .r)
-    pub green : Lifted (f (p / z .w) (p % z .w) .g) (a .g)
-    pub blue : Lifted (f (p / z .w) (p % z .w) .b) (a .b)
+    pub red : Lifted (at z f p .value .r) (a .r)
+    pub green : Lifted (at z f p .value .g) (a .g)
+    pub blue : Lifted (at z f p .value .b) (a .b)
 
-  pub light-chosen : 0 < z .w * z .h → k .share ≤ 1000 → (p : ℕ) × Chosen p (light z k f)
+  pub light-chosen : 0 < length (places z f) → k .share ≤ 1000 → (p : ℕ) × Chosen p (light z k f)
   unfolding light
   light-chosen h l =
-      let n = candidates-many z k f (m-le z k h l) in (
+      let n = candidates-many z k f (m-le (length (places z f)) k h l) in (
         brightest shine (candidates z k f),
         record {
           candidate = brightest-most shine (candidates z k f) (omega arith) (candidates-rising z k f);
@@ -135,17 +153,31 @@ module _ (z : Shape) (k : Settings) (f : Plane Rgb) where
   pub chosen-one : (p q : ℕ) (a b : Rgb) → Chosen p a → Chosen q b → p ≡ q
   chosen-one p q a b c d = most-one shine (candidates z k f) p q (c .candidate) (d .candidate)
 
+  pub chosen-seen : (p : ℕ) (a : Rgb) → Chosen p a → at z f p .seen ≡ true
+  chosen-seen p a c = candidates-seen z k f p (c .candidate .inside)
+
+-- a mask with a byte that is not 0 shows a pixel
+pub places-of : (z : Shape) (mask frame : List ℕ) → length mask ≡ z .w * z .h → SomeSeen mask → 0 < length (places z (masked z mask frame))
+places-of z mask frame n s =
+    let p = s .0 in
+    let h : p < length mask = s .1 in
+    let seen : at z (masked z mask frame) p .seen ≡ true =
+    ap (λ (i : Shown Rgb). i .seen) (at-masked z mask frame p) ∙ ap not (ne-eqb (getD mask p 0) 0 (s .2)) in
+    places-some z (masked z mask frame) p (omega arith) seen
+
 -- of a call that keeps its promise and is not refused
 pub lights-chosen :
-    (z : Size) (k : Settings) (frame : List ℕ) (work work′ : List ℤ) (a : Rgb)
-    → Lights z k frame work (found.Light a) work′
-    → (p : ℕ) × Chosen (described z) k (pixels (described z) frame) p a
-lights-chosen z k frame work work′ a q =
-    let n = refuseLight z k (length frame) (length work) in
-    let b = light (described z) k (pixels (described z) frame) in
+    (z : Size) (k : Settings) (mask frame : List ℕ) (work work′ : List ℤ) (a : Rgb)
+    → Lights z k mask frame work (found.Light a) work′
+    → (p : ℕ) × Chosen (described z) k (masked (described z) mask frame) p a
+lights-chosen z k mask frame work work′ a q =
+    let n = noLight z k mask frame work in
+    let f = masked (described z) mask frame in
+    let b = light (described z) k f in
     let free : n ≡ 0 = sym (said-found n b) ∙ ap foundSaid (sym (q .answer)) in
-    let none = light-exact z k (length frame) (length work) .free free in
-    let size = size-good z (none .0) in
+    let none = light-exact z k (length mask) (badSeen mask) (length frame) (length work) .free free in
+    let shown = mask-good z (length mask) (neither (badMask z (length mask)) (badWork z (length work)) (none .1 .1 .1 .0) .0) in
+    let some = places-of (described z) mask frame shown (seen-good mask (none .1 .1 .1 .1 .0)) in
     let same : found.Light a ≡ found.Light b = rw free at (q .answer) in
     let e : a ≡ b = cc in
-    rw e (light-chosen (described z) k (pixels (described z) frame) (mul-pos (size .across) (size .down)) (settings-good k (none .1 .0) .share-most))
+    rw e (light-chosen (described z) k f some (settings-good k (none .1 .0) .share-most))

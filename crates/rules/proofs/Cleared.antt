@@ -12,14 +12,14 @@ use Rattle.rules.specs.declared.Settings.{Settings}
 use Rattle.rules.specs.declared.Rgb.{Rgb}
 use Rattle.rules.specs.declared.Answer.{Answer}
 use Rattle.rules.specs.declared.Answer.the-variants.{Done}
-use Rattle.rules.specs.Window.{Plane}
-use Rattle.rules.specs.Transmission.{refined}
+use Rattle.rules.specs.Window.{Plane, Shown}
+use Rattle.rules.specs.Transmission.{mapEntry}
 use Rattle.rules.specs.Picture.{recover3, cleared}
 use Rattle.rules.specs.Setup.{Setup, shape}
-use Rattle.rules.specs.Buffers.{pixels, values, clear}
+use Rattle.rules.specs.Buffers.{pixels, values, shownBy, clear}
 use Rattle.rules.specs.Promise.{Lent, noClear, afterClear, Clears}
 use Rattle.rules.proofs.Answers.{done-free}
-use Rattle.rules.proofs.Buffers.{values-entries, pixels-bytes}
+use Rattle.rules.proofs.Buffers.{values-entries, pixels-bytes, masked-value}
 
 -- t is the larger of m and n
 pub record Larger (m n t : ℕ) : Type 0 where
@@ -38,9 +38,9 @@ larger-some m n = (max m n, record { first = omega arith; second = omega arith; 
     go (no h) = inl (omega arith)
 
 -- the cleared pixel of the rule
-pub cleared-at : (z : Shape) (k : Settings) (a : Rgb) (f : Plane Rgb) (y x t : ℕ) → Larger (refined z k a f y x) (k .t0) t → cleared z k a f y x ≡ recover3 a (f y x) t
+pub cleared-at : (z : Shape) (k : Settings) (a : Rgb) (f : Plane (Shown Rgb)) (y x t : ℕ) → Larger (mapEntry z k a f y x) (k .t0) t → cleared z k a f y x ≡ recover3 a (f y x .value) t
 unfolding cleared
-cleared-at z k a f y x t l = ap (recover3 a (f y x)) (⊎-elim (λ e. omega arith) (λ e. omega arith) (l .one))
+cleared-at z k a f y x t l = ap (recover3 a (f y x .value)) (⊎-elim (λ e. omega arith) (λ e. omega arith) (l .one))
 
 -- and of the picture that Clear leaves, by the map's own entry and the frame's own pixel
 pub clear-at :
@@ -52,7 +52,9 @@ pub clear-at :
 unfolding clear
 clear-at p frame y x t hy hx l =
     let z = shape p in
-    pixels-bytes z _ y x hy hx ∙ cleared-at z (p .settings) (p .light) (pixels z frame) y x t (rw (values-entries z _ y x hy hx) at l)
+    pixels-bytes z _ y x hy hx
+    ∙ cleared-at z (p .settings) (p .light) (shownBy p frame) y x t (rw (values-entries z _ y x hy hx) at l)
+    ∙ ap (λ (i : Rgb). recover3 (p .light) i t) (masked-value z (p .mask) frame y x)
 
 -- and that a call leaves which keeps its promise and is not refused
 pub clears-at :

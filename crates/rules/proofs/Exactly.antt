@@ -81,13 +81,16 @@ pub record Exact (n : ℕ) (l : Tests) : Type 0 where
 pub exact : (l : Tests) → numbered l ≡ true → Exact (first l) l
 exact l p = record { refused = λ m e. given m l e; refuses = λ m g. gives m l g; free = accepted l p; frees = accepts l }
 
-pub light-exact : (z : Size) (k : Settings) (frame work : ℕ) → Exact (refuseLight z k frame work) (testsLight z k frame work)
+-- mask, frame and work are lengths, and `none` says whether no pixel is seen
+pub light-exact : (z : Size) (k : Settings) (mask : ℕ) (none : Bool) (frame work : ℕ) → Exact (refuseLight z k mask none frame work) (testsLight z k mask none frame work)
 unfolding refuseLight
-light-exact z k frame work = exact _ refl
+light-exact z k mask none frame work = exact _ refl
 
 pub clear-exact :
     (p : Setup) (l : Lent)
-    → Exact (noClear p l) (testsClear (p .size) (p .settings) (p .light) (length (l .frame)) (length (l .map)) (length (l .picture)) (length (l .work)))
+    → Exact
+    (noClear p l)
+    (testsClear (p .size) (p .settings) (p .light) (length (p .mask)) (length (l .frame)) (length (l .map)) (length (l .picture)) (length (l .work)))
 unfolding refuseClear
 clear-exact p l = exact _ refl
 
@@ -95,7 +98,7 @@ pub replace-exact :
     (p : Setup) (c : Rect) (new : List ℕ) (l : Lent)
     → Exact
     (noReplace p c new l)
-    (testsReplace (p .size) (p .settings) (p .light) c (length new) (length (l .frame)) (length (l .map)) (length (l .picture)) (length (l .work)))
+    (testsReplace (p .size) (p .settings) (p .light) c (length new) (length (p .mask)) (length (l .frame)) (length (l .map)) (length (l .picture)) (length (l .work)))
 unfolding refuseReplace
 replace-exact p c new l = exact _ refl
 

@@ -6,12 +6,13 @@ use mathlib.Core.List.{List, [], _∷_, _++_, foldr, map}
 use Prim.Native.Nat.{ℕ, zero, suc, _+_, _*_, min}
 use native.Mathlib.Nat.{add-zero, zero-add, add-suc, suc-add}
 use native.Mathlib.Omega.{arith}
+use mathlib.Core.Bool.{Bool, true, false, cond}
 use lib.ListN.{length, length-append}
 use lib.IntN.{ℤ, pos, _+ℤ_, +ℤ-assoc, +ℤ-comm}
 use Rattle.rules.specs.Shape.{Shape}
 use Rattle.rules.specs.Fold.{Σ}
 use Rattle.rules.proofs.Local.{from-cong, from-length}
-use Rattle.rules.specs.Window.{Plane, from, flat, low, many, around, square, window, total, totalZ, least}
+use Rattle.rules.specs.Window.{Plane, Shown, plain, seenOf, from, flat, low, many, around, square, window, total, totalZ, least}
 
 module _ {A : Type 0} (_⊕_ : A → A → A) (ε : A) (assoc : (a b c : A) → _⊕_ (_⊕_ a b) c ≡ _⊕_ a (_⊕_ b c)) (comm : (a b : A) → _⊕_ a b ≡ _⊕_ b a) (twice : _⊕_ ε ε ≡ ε) where
   infixl 6 _⊕_
@@ -22,6 +23,16 @@ module _ {A : Type 0} (_⊕_ : A → A → A) (ε : A) (assoc : (a b c : A) → 
   start : (l : List A) → ε ⊕ foldr _⊕_ ε l ≡ foldr _⊕_ ε l
   start [] = twice
   start (i ∷ l) = left ε i (foldr _⊕_ ε l) ∙ ap (λ (x : A). i ⊕ x) (start l)
+
+  -- a fold over the seen values is one over all, with the start in the place of the hidden ones
+  pub fold-seen : {B : Type 0} (g : B → A) (l : List (Shown B)) → foldr (λ i n. g i ⊕ n) ε (seenOf l) ≡ foldr _⊕_ ε (map (λ i. cond (i .seen) (g (i .value)) ε) l)
+  fold-seen g [] = refl
+  fold-seen {B} g (i ∷ l) = go (i .seen) (fold-seen g l)
+    where
+      go : (b : Bool) → foldr (λ j n. g j ⊕ n) ε (seenOf l) ≡ foldr _⊕_ ε (map (λ j. cond (j .seen) (g (j .value)) ε) l)
+          → foldr (λ j n. g j ⊕ n) ε (cond b (i .value ∷ seenOf l) (seenOf l)) ≡ cond b (g (i .value)) ε ⊕ foldr _⊕_ ε (map (λ j. cond (j .seen) (g (j .value)) ε) l)
+      go true e = ap (λ (x : A). g (i .value) ⊕ x) e
+      go false e = e ∙ sym (start (map (λ j. cond (j .seen) (g (j .value)) ε) l))
 
   pub fold-append : (l m : List A) → foldr _⊕_ ε (l ++ m) ≡ foldr _⊕_ ε l ⊕ foldr _⊕_ ε m
   fold-append [] m = sym (start m)
@@ -107,10 +118,46 @@ unfolding square
 square-length w h q f y x =
     flat-length (low q y) (many h q y) (many w q x) (λ v. around w q x (λ u. f v u)) (λ v. from-length (low q x) _ (λ u. f v u))
 
--- a window is the square of the frame's shape
-pub window-square : {A : Type 0} (z : Shape) (q : ℕ) (f : Plane A) (y x : ℕ) → window z q f y x ≡ square (z .w) (z .h) q f y x
+-- ---- windows
+
+abbrev bare : {A : Type 0} → A → Shown A
+bare i = record { seen = true; value = i }
+
+-- where all is seen, a window is the square of the frame's shape
+seen-all : {A : Type 0} (l : List A) → seenOf (map bare l) ≡ l
+seen-all [] = refl
+seen-all {A} (i ∷ l) = ap (λ (r : List A). i ∷ r) (seen-all l)
+
+pub window-square : {A : Type 0} (z : Shape) (q : ℕ) (f : Plane A) (y x : ℕ) → window z q (plain f) y x ≡ square (z .w) (z .h) q f y x
 unfolding window
-window-square z q f y x = refl
+window-square {A} z q f y x = ap (λ (l : List (Shown A)). seenOf l) (sym (map-square bare (z .w) (z .h) q f y x)) ∙ seen-all (square (z .w) (z .h) q f y x)
+
+-- what the leaves work on: the least value is that of the plane that has the top value at hidden pixels, a sum that of the plane that has 0 there,
+-- and the number of values is a sum
+pub window-least : (top : ℕ) (z : Shape) (q : ℕ) (f : Plane (Shown ℕ)) (y x : ℕ)
+    → least top (window z q f y x) ≡ least top (square (z .w) (z .h) q (λ v u. cond (f v u .seen) (f v u .value) top) y x)
+unfolding window
+window-least top z q f y x =
+    fold-seen min top (λ a b c. omega arith) (λ a b. omega arith) (omega arith) (λ i. i) (square (z .w) (z .h) q f y x)
+    ∙ ap (least top) (map-square (λ i. cond (i .seen) (i .value) top) (z .w) (z .h) q f y x)
+
+pub window-total : {A : Type 0} (g : A → ℤ) (z : Shape) (q : ℕ) (f : Plane (Shown A)) (y x : ℕ)
+    → totalZ g (window z q f y x) ≡ totalZ (λ i. cond (i .seen) (g (i .value)) (pos 0)) (square (z .w) (z .h) q f y x)
+unfolding window
+window-total g z q f y x =
+    fold-seen _+ℤ_ (pos 0) +ℤ-assoc +ℤ-comm refl g (square (z .w) (z .h) q f y x)
+    ∙ sym (fold-map _+ℤ_ (pos 0) (λ i. cond (i .seen) (g (i .value)) (pos 0)) (square (z .w) (z .h) q f y x))
+
+length-total : {A : Type 0} (l : List A) → length l ≡ total (λ i. 1) l
+length-total [] = refl
+length-total (i ∷ l) = omega (arith, length-total l)
+
+pub window-length : {A : Type 0} (z : Shape) (q : ℕ) (f : Plane (Shown A)) (y x : ℕ) → length (window z q f y x) ≡ total (λ i. cond (i .seen) 1 0) (square (z .w) (z .h) q f y x)
+unfolding window
+window-length z q f y x =
+    length-total (window z q f y x)
+    ∙ fold-seen _+_ 0 (λ a b c. omega arith) (λ a b. omega arith) refl (λ i. 1) (square (z .w) (z .h) q f y x)
+    ∙ sym (fold-map _+_ 0 (λ i. cond (i .seen) 1 0) (square (z .w) (z .h) q f y x))
 
 -- the uses: a square's least value, and its sum, row by row
 pub least-square : (top w h q : ℕ) (f : Plane ℕ) (y x : ℕ)

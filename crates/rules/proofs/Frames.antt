@@ -1,44 +1,45 @@
--- Locality as the buffers show it, and that a run keeps the buffers' lengths, so that the fresh clearing of demand 3 is never refused for them.
--- Assumes nothing.
+-- Locality as the buffers show it: a map entry and a cleared pixel hang on the frame and the mask within the reach alone (`map-local`, `picture-local`).
+-- And that a run keeps the buffers' lengths, so that the fresh clearing of demand 3 is never refused for them. Assumes nothing.
 use mathlib.Core.Path.{_≡_, sym, _∙_}
 use mathlib.Core.Bool.{Bool, true, false, cond}
 use mathlib.Core.List.{List, [], _∷_}
 use Prim.Native.Nat.{ℕ, _*_, _<_}
 use lib.ListN.{length}
-use Rattle.rules.specs.Shape.{Shape}
+use Rattle.rules.specs.Shape.{Shape, described}
+use Rattle.rules.specs.declared.Size.{Size}
+use Rattle.rules.specs.declared.Settings.{Settings}
+use Rattle.rules.specs.declared.Rgb.{Rgb}
 use Rattle.rules.specs.declared.Rect.{Rect}
-use Rattle.rules.specs.Setup.{Setup, shape}
-use Rattle.rules.specs.Buffers.{pixels, values, State, clear, reach, replace}
+use Rattle.rules.specs.Setup.{Setup, handed, shape}
+use Rattle.rules.specs.Buffers.{pixels, masked, values, State, clear, reach, replace}
 use Rattle.rules.specs.Run.{Call, accepted, step, run}
-use Rattle.rules.proofs.Local.{Agree, refined-local, cleared-local}
+use Rattle.rules.proofs.Local.{Agree, entry-local, cleared-local}
 use Rattle.rules.proofs.Buffers.{values-entries, pixels-bytes, length-entries, length-bytes}
 
-module _ (p : Setup) where
-  pub map-local :
-      (frame other : List ℕ) (y x : ℕ)
-      → y < shape p .h
-      → x < shape p .w
-      → Agree (shape p) (reach (p .settings)) y x (pixels (shape p) frame) (pixels (shape p) other)
-      → values (shape p) (clear p frame .map) y x ≡ values (shape p) (clear p other .map) y x
-  unfolding clear
-  map-local frame other y x hy hx h =
-      let z = shape p in
-      values-entries z _ y x hy hx
-      ∙ refined-local z (p .settings) (p .light) (pixels z frame) (pixels z other) y x hy hx h
-      ∙ sym (values-entries z _ y x hy hx)
+-- within the reach the frames agree and the masks hide the same pixels
+abbrev pub SameNear : Size → Settings → ℕ → ℕ → List ℕ → List ℕ → List ℕ → List ℕ → Type 0
+SameNear z k y x mask frame mask′ frame′ = Agree (described z) (reach k) y x (masked (described z) mask frame) (masked (described z) mask′ frame′)
 
-  pub picture-local :
-      (frame other : List ℕ) (y x : ℕ)
-      → y < shape p .h
-      → x < shape p .w
-      → Agree (shape p) (reach (p .settings)) y x (pixels (shape p) frame) (pixels (shape p) other)
-      → pixels (shape p) (clear p frame .picture) y x ≡ pixels (shape p) (clear p other .picture) y x
+module _ (z : Size) (k : Settings) (a : Rgb) (mask mask′ frame frame′ : List ℕ) (y x : ℕ) (hy : y < z .h) (hx : x < z .w) where
+  abbrev one : State
+  one = clear (handed z k a mask) frame
+
+  abbrev other : State
+  other = clear (handed z k a mask′) frame′
+
+  pub map-local : SameNear z k y x mask frame mask′ frame′ → values (described z) (one .map) y x ≡ values (described z) (other .map) y x
   unfolding clear
-  picture-local frame other y x hy hx h =
-      let z = shape p in
-      pixels-bytes z _ y x hy hx
-      ∙ cleared-local z (p .settings) (p .light) (pixels z frame) (pixels z other) y x hy hx h
-      ∙ sym (pixels-bytes z _ y x hy hx)
+  map-local h =
+      values-entries (described z) _ y x hy hx
+      ∙ entry-local (described z) k a (masked (described z) mask frame) (masked (described z) mask′ frame′) y x hy hx h
+      ∙ sym (values-entries (described z) _ y x hy hx)
+
+  pub picture-local : SameNear z k y x mask frame mask′ frame′ → pixels (described z) (one .picture) y x ≡ pixels (described z) (other .picture) y x
+  unfolding clear
+  picture-local h =
+      pixels-bytes (described z) _ y x hy hx
+      ∙ cleared-local (described z) k a (masked (described z) mask frame) (masked (described z) mask′ frame′) y x hy hx h
+      ∙ sym (pixels-bytes (described z) _ y x hy hx)
 
 -- the buffers have their lengths
 pub record Sized (z : Shape) (s : State) : Type 0 where

@@ -1,20 +1,24 @@
--- A test that does not hold, as orders: what is known of a size, of settings, of a light, of lengths and of a rectangle that are not refused.
+-- A test that does not hold, as orders: what is known of a size, of settings, of a light, of lengths, of a mask and of a rectangle that are not refused.
 -- Assumes nothing.
-use mathlib.Core.Path.{_≡_, refl}
-use mathlib.Core.Bool.{Bool, true, false, not, _||_, true≢false}
+use mathlib.Core.Path.{_≡_, refl, ap, _∙_}
+use mathlib.Core.Bool.{Bool, true, false, not, _&&_, _||_, true≢false}
 use mathlib.Core.List.{List, [], _∷_}
 use Prim.Native.Nat.{ℕ, zero, suc, _+_, _*_, _≤_, _<_, zero-le}
 use native.Mathlib.Omega.{arith}
 use lib.Dec.{ltb, eqb}
-use lib.ListN.{getD}
-use borrow.Author.Tests.{ltb-false, ltb-true, eqb-true, eqb-false}
-use Rattle.rules.specs.Shape.{described, room}
+use lib.ListN.{length, getD}
+use borrow.Author.Tests.{ltb-false, ltb-true, eqb-true, eqb-false, ne-eqb}
+use Rattle.rules.specs.Shape.{Shape, described, room}
 use Rattle.rules.specs.declared.Size.{Size}
 use Rattle.rules.specs.declared.Settings.{Settings}
 use Rattle.rules.specs.declared.Rgb.{Rgb}
 use Rattle.rules.specs.declared.Rect.{Rect}
-use Rattle.rules.specs.Refusals.{out, off, badSize, badSettings, badFrame, badMap, badWork, badLight, badRect, badNew, badBand, badEntries}
+use Rattle.rules.specs.Light.{at}
+use Rattle.rules.specs.Buffers.{seenIn}
+use Rattle.rules.specs.Refusals.{out, off, badSize, badSettings, badFrame, badMap, badMask, badWork, badLight, badRect, badNew, badBand, badEntries, badSeen}
 use Rattle.rules.specs.Good.{GoodSize, GoodSettings, GoodLight, GoodRect}
+use Rattle.rules.proofs.Near.{apart}
+use Rattle.rules.proofs.Buffers.{at-seen}
 
 -- neither of two tests
 pub neither : (a b : Bool) → (a || b) ≡ false → (a ≡ false) × (b ≡ false)
@@ -85,6 +89,10 @@ pub map-good : (z : Size) (n : ℕ) → badMap z n ≡ false → n ≡ z .w * z 
 unfolding badMap
 map-good z n e = same-of n (z .w * z .h) e
 
+pub mask-good : (z : Size) (n : ℕ) → badMask z n ≡ false → n ≡ z .w * z .h
+unfolding badMask
+mask-good z n e = same-of n (z .w * z .h) e
+
 pub work-good : (z : Size) (n : ℕ) → badWork z n ≡ false → room (described z) ≤ n
 unfolding badWork
 work-good z n e = ltb-false n (room (described z)) e
@@ -97,6 +105,34 @@ unfolding badEntries
 entries-good [] e p = zero-le
 entries-good (t ∷ map) e zero = ltb-false 10000 t (neither (ltb 10000 t) (badEntries map) e .0)
 entries-good (t ∷ map) e (suc p) = entries-good map (neither (ltb 10000 t) (badEntries map) e .1) p
+
+-- ---- a mask's bytes
+
+-- one of them is not 0
+abbrev pub SomeSeen : List ℕ → Type 0
+SomeSeen mask = (p : ℕ) × (p < length mask) × (getD mask p 0 ≡ 0 → ⊥)
+
+pub seen-good : (mask : List ℕ) → badSeen mask ≡ false → SomeSeen mask
+unfolding badSeen
+seen-good [] e = absurd (true≢false e)
+seen-good (i ∷ mask) e = go (eqb i 0) refl e (seen-good mask)
+  where
+    go : (b : Bool) → eqb i 0 ≡ b → (b && badSeen mask) ≡ false → (badSeen mask ≡ false → SomeSeen mask) → SomeSeen (i ∷ mask)
+    go false h f ih = (0, omega arith, eqb-false i 0 h)
+    go true h f ih = let s = ih f in (suc (s .0), omega (arith, s .1), s .2)
+
+-- so a mask of the right length shows a pixel of the frame
+pub seen-place : (z : Shape) (mask : List ℕ) → length mask ≡ z .w * z .h → badSeen mask ≡ false → (p : ℕ) × (p < z .w * z .h) × (at z (seenIn z mask) p ≡ true)
+seen-place z mask n e =
+    let s = seen-good mask e in
+    (s .0, omega (arith, s .1), at-seen z mask (s .0) ∙ ap not (ne-eqb (getD mask (s .0) 0) 0 (s .2)))
+
+-- and each is 0 where the test holds
+pub seen-none : (mask : List ℕ) → badSeen mask ≡ true → (p : ℕ) → getD mask p 0 ≡ 0
+unfolding badSeen
+seen-none [] e p = refl
+seen-none (i ∷ mask) e zero = eqb-true i 0 (apart (eqb i 0) (badSeen mask) e .0)
+seen-none (i ∷ mask) e (suc p) = seen-none mask (apart (eqb i 0) (badSeen mask) e .1) p
 
 -- ---- a rectangle, its pixels, a band
 

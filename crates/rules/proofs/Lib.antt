@@ -6,6 +6,8 @@ pub mod Buffers
 pub mod Near
 pub mod Pixels
 pub mod Box
+pub mod Windowed
+pub mod Seen
 pub mod Integers
 pub mod Nearest
 pub mod Recover
@@ -28,12 +30,16 @@ pub mod Doubles
 pub mod Run
 pub mod Pasted
 pub mod Frames
+pub mod Unseen
+pub mod UnseenCalls
+pub mod Plain
+pub mod AllSeen
+pub mod AllSeenCalls
 pub mod Cases
 pub mod Signs
 pub mod Worth
 pub mod WorthOrder
 pub mod WorthHeld
-pub mod Windowed
 pub mod WholeLine
 pub mod WholeSums
 pub mod WholeEntry
@@ -45,3 +51,4 @@ pub mod WholeGain
 pub mod WholeFilter
 pub mod WholeMet
 pub mod WholeNumbers
+pub mod Hidden

@@ -2,15 +2,15 @@
 -- agree within q + p into planes that agree within p (`agree-through`). The map entry and the cleared pixel are three windows, one after the other.
 -- Assumes nothing.
 use mathlib.Core.Path.{_≡_, refl, ap, ap₂}
-use mathlib.Core.List.{_∷_}
+use mathlib.Core.List.{List, _∷_}
 use Prim.Native.Nat.{ℕ, zero, suc, _+_, _≤_, _<_}
 use native.Mathlib.Omega.{arith}
 use lib.ListN.{length}
 use Rattle.rules.specs.Shape.{Shape}
 use Rattle.rules.specs.declared.Settings.{Settings}
 use Rattle.rules.specs.declared.Rgb.{Rgb}
-use Rattle.rules.specs.Window.{Plane, from, flat, low, many, around, square, window}
-use Rattle.rules.specs.Transmission.{leastRatio, coarse, sample, line, fit, refined}
+use Rattle.rules.specs.Window.{Plane, Shown, alike, seenOf, from, flat, low, many, around, square, window}
+use Rattle.rules.specs.Transmission.{leastRatio, coarse, sample, line, fit, refined, mapEntry}
 use Rattle.rules.specs.Picture.{cleared}
 use Rattle.rules.specs.Buffers.{reach}
 
@@ -43,10 +43,10 @@ from-length a (suc n) f = ap suc (from-length (suc a) n f)
 around-cong : {A : Type 0} (end q p : ℕ) (f g : ℕ → A) → ((i : ℕ) → i < end → p ≤ i + q → i ≤ p + q → f i ≡ g i) → around end q p f ≡ around end q p g
 around-cong end q p f g h = from-cong (low q p) (many end q p) f g (λ i l m. h i (omega arith) (omega arith) (omega arith))
 
-pub window-local : {A : Type 0} (z : Shape) (q : ℕ) → Local {A = A} z q (window z q)
+pub window-local : {A : Type 0} (z : Shape) (q : ℕ) → Local {A = Shown A} z q (window z q)
 unfolding window square
-window-local z q f g y x hy hx h =
-    ap flat
+window-local {A} z q f g y x hy hx h =
+    ap (λ (l : List (List (Shown A))). seenOf (flat l))
     (around-cong (z .h) q y _ _ (λ v a b c. around-cong (z .w) q x _ _ (λ u d e k. h v u (record { row = a; column = d; above = b; below = c; left = e; right = k }))))
 
 -- within p of what is within q is within q + p
@@ -91,7 +91,7 @@ agree-ap z q y x F f g h v u w = ap F (h v u w)
 module _ (z : Shape) (k : Settings) (a : Rgb) where
   pub coarse-local : Local z (k .s) (coarse z k a)
   unfolding coarse
-  coarse-local f g y x hy hx h = rw (window-local z (k .s) _ _ y x hy hx (agree-ap z (k .s) y x (leastRatio a) f g h))
+  coarse-local f g y x hy hx h = rw (window-local z (k .s) _ _ y x hy hx (agree-ap z (k .s) y x (alike (leastRatio a)) f g h))
 
   pub sample-local : Local z (k .s) (sample z k a)
   unfolding sample
@@ -100,7 +100,10 @@ module _ (z : Shape) (k : Settings) (a : Rgb) where
   pub fit-local : Local z (k .s + k .r) (fit z k a)
   unfolding fit
   fit-local f g y x hy hx h =
-      ap (line (k .e)) (local-after z (k .s) (k .r) (sample z k a) (window z (k .r)) sample-local (window-local z (k .r)) f g y x hy hx h)
+      cc (
+        h y x (self z (k .s + k .r) y x hy hx),
+        local-after z (k .s) (k .r) (sample z k a) (window z (k .r)) sample-local (window-local z (k .r)) f g y x hy hx h,
+      )
 
   pub refined-local : Local z (reach k) (refined z k a)
   unfolding refined
@@ -111,6 +114,10 @@ module _ (z : Shape) (k : Settings) (a : Rgb) where
             (agree-less z (k .s + k .r + k .r) (reach k) (omega arith) f g y x h),
       )
 
+  pub entry-local : Local z (reach k) (mapEntry z k a)
+  unfolding mapEntry
+  entry-local f g y x hy hx h = cc (h y x (self z (reach k) y x hy hx), refined-local f g y x hy hx h)
+
   pub cleared-local : Local z (reach k) (cleared z k a)
   unfolding cleared
-  cleared-local f g y x hy hx h = cc (h y x (self z (reach k) y x hy hx), refined-local f g y x hy hx h)
+  cleared-local f g y x hy hx h = cc (h y x (self z (reach k) y x hy hx), entry-local f g y x hy hx h)

@@ -72,16 +72,18 @@ lowest l p = record { checks = refl; least = λ m a. between 0 l p m a .1; some 
 
 -- ---- each call
 
-pub light-lowest : (z : Size) (k : Settings) (frame work : ℕ) → Lowest (1 ∷ 2 ∷ 3 ∷ 4 ∷ []) (refuseLight z k frame work) (testsLight z k frame work)
+pub light-lowest :
+    (z : Size) (k : Settings) (mask : ℕ) (none : Bool) (frame work : ℕ)
+    → Lowest (1 ∷ 2 ∷ 3 ∷ 4 ∷ 14 ∷ []) (refuseLight z k mask none frame work) (testsLight z k mask none frame work)
 unfolding refuseLight
-light-lowest z k frame work = lowest _ refl
+light-lowest z k mask none frame work = lowest _ refl
 
 pub clear-lowest :
     (p : Setup) (l : Lent)
     → Lowest
     (1 ∷ 2 ∷ 3 ∷ 4 ∷ 5 ∷ [])
     (noClear p l)
-    (testsClear (p .size) (p .settings) (p .light) (length (l .frame)) (length (l .map)) (length (l .picture)) (length (l .work)))
+    (testsClear (p .size) (p .settings) (p .light) (length (p .mask)) (length (l .frame)) (length (l .map)) (length (l .picture)) (length (l .work)))
 unfolding refuseClear
 clear-lowest p l = lowest _ refl
 
@@ -90,7 +92,7 @@ pub replace-lowest :
     → Lowest
     (1 ∷ 2 ∷ 3 ∷ 4 ∷ 5 ∷ 6 ∷ 7 ∷ [])
     (noReplace p c new l)
-    (testsReplace (p .size) (p .settings) (p .light) c (length new) (length (l .frame)) (length (l .map)) (length (l .picture)) (length (l .work)))
+    (testsReplace (p .size) (p .settings) (p .light) c (length new) (length (p .mask)) (length (l .frame)) (length (l .map)) (length (l .picture)) (length (l .work)))
 unfolding refuseReplace
 replace-lowest p c new l = lowest _ refl
 

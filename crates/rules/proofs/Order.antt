@@ -1,5 +1,5 @@
 -- Lists of positions: what stands in one, what is kept of it, and rising order. And ranks in a strict order: where each of two numbers goes before the
--- other, of n positions exactly m have fewer than m that go before them, for each m up to n (`ranked`). Assumes nothing.
+-- other, of n positions in rising order exactly m have fewer than m that go before them, for each m up to n (`ranked`). Assumes nothing.
 use mathlib.Core.Path.{_≡_, refl, sym, ap, _∙_}
 use mathlib.Core.Bool.{Bool, true, false, cond}
 use mathlib.Core.List.{List, [], _∷_}
@@ -11,7 +11,6 @@ use lib.Dec.{ltb}
 use borrow.Author.Tests.{ltb-true, lt-ltb, le-ltb}
 use Rattle.rules.specs.Window.{from}
 use Rattle.rules.specs.Light.{keep, count}
-use Rattle.rules.proofs.Local.{from-length}
 use Rattle.rules.proofs.Near.{same-test}
 use Rattle.rules.proofs.Rank.{one-le, count-le}
 
@@ -40,6 +39,9 @@ upto a n = from a n (λ p. p)
 pub from-rising : (a n : ℕ) → Rising a (upto a n)
 from-rising a zero = tt
 from-rising a (suc n) = (omega arith, from-rising (suc a) n)
+
+pub in-some : (p : ℕ) (l : List ℕ) → In p l → 0 < length l
+in-some p (o ∷ l) i = omega arith
 
 pub from-in : (a n p : ℕ) → a ≤ p → p < a + n → In p (upto a n)
 from-in a zero p l h = absurd (let z : 1 ≤ 0 = omega arith in omega arith)
@@ -87,6 +89,11 @@ module _ (t : ℕ → Bool) where
       go : (b : Bool) → Rising (suc o) (keep t l) → Rising a (cond b (o ∷ keep t l) (keep t l))
       go true j = (r .0, j)
       go false j = rising-less a (suc o) (keep t l) (let h = r .0 in omega arith) j
+
+-- two tests that agree on a list keep the same of it
+pub keep-same : (s t : ℕ → Bool) (l : List ℕ) → ((p : ℕ) → In p l → s p ≡ t p) → keep s l ≡ keep t l
+keep-same s t [] h = refl
+keep-same s t (o ∷ l) h = rw (h o (here refl), keep-same s t l (λ p i. h p (later i)))
 
 -- ---- ranks in a strict order of all numbers: of n positions, m have fewer than m that go before them
 
@@ -151,9 +158,7 @@ module _ (b : ℕ → ℕ → Bool) (never : (p : ℕ) → b p p ≡ false) (thr
           in
           rw (never a, lt-ltb (0 + ahead b l a) (suc n) (omega arith)) (omega arith)
 
-  pub ranked : (a n c : ℕ) → c ≤ n → count (λ p. ltb (ahead b (upto a n) p) c) (upto a n) ≡ c
-  ranked a zero c h = omega arith
-  ranked a (suc n) c h =
-      let e : length (upto (suc a) n) ≡ n = from-length (suc a) n (λ p. p) in
-      one-more a (upto (suc a) n) (λ p i e. let j = rising-in (suc a) p (upto (suc a) n) (from-rising (suc a) n) i in omega arith)
-      (λ k j. ranked (suc a) n k (omega arith)) c (omega arith)
+  pub ranked : (a c : ℕ) (l : List ℕ) → Rising a l → c ≤ length l → count (λ p. ltb (ahead b l p) c) l ≡ c
+  ranked a c [] r h = omega arith
+  ranked a c (o ∷ l) r h =
+      one-more o l (λ p i e. let j = rising-in (suc o) p l (r .1) i in omega arith) (λ k j. ranked (suc o) k l (r .1) j) c h

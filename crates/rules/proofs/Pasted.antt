@@ -1,7 +1,7 @@
--- What Replace does, pixel by pixel. The frame has the new pixels in the rectangle (`pasted-inside`) and the old ones outside (`pasted-outside`). Map
--- entries and cleared pixels at most s + 2·r rows and s + 2·r columns from the rectangle are those of a clearing of the new frame: of the rules
--- (`replace-anew`), and of a call that keeps its promise (`replaces-anew`). All others stay (`Run.replace-alone`, `Run.replaces-alone`). To be so near the
--- rectangle is to have a pixel of it so near (`near-some`, `some-near`). Assumes nothing.
+-- What Replace does, pixel by pixel. The frame has the new pixels in the rectangle (`pasted-inside`) and the old ones outside (`pasted-outside`), seen and
+-- hidden as before (`shown-inside`, `shown-outside`). Map entries and cleared pixels at most s + 2·r rows and s + 2·r columns from the rectangle are
+-- those of a clearing of the new frame: of the rules (`replace-anew`), and of a call that keeps its promise (`replaces-anew`). All others stay
+-- (`Run.replace-alone`, `Run.replaces-alone`). To be so near the rectangle is to have a pixel of it so near (`near-some`, `some-near`). Assumes nothing.
 use mathlib.Core.Path.{_≡_, sym, ap₂, _∙_}
 use mathlib.Core.Logic.{_⊎_, inl, inr, ⊎-elim}
 use mathlib.Core.Bool.{Bool, true}
@@ -16,7 +16,7 @@ use Rattle.rules.specs.declared.Answer.the-variants.{Done}
 use Rattle.rules.specs.Window.{Plane}
 use Rattle.rules.specs.Setup.{Setup, shape}
 use Rattle.rules.specs.Good.{GoodRect}
-use Rattle.rules.specs.Buffers.{pixels, values, State, clear, near, patch, placed, pasted, reach, replace}
+use Rattle.rules.specs.Buffers.{pixels, seenIn, masked, values, State, clear, near, patch, placed, pasted, reach, replace}
 use Rattle.rules.specs.Promise.{Lent, state, noReplace, afterReplace, Replaces}
 use Rattle.rules.proofs.Near.{Near, Far, near-yes, far-no, near-or-far}
 use Rattle.rules.proofs.Buffers.{values-entries, pixels-bytes}
@@ -78,6 +78,20 @@ module _ (z : Shape) (c : Rect) (new frame : List ℕ) where
       (λ (n : Near 0 c y x). absurd (o (record { top = omega arith; bottom = omega arith; left = omega arith; right = omega arith })))
       (far-no 0 c y x)
       (near-or-far 0 c y x))
+
+  -- the mask stays: a pixel is seen or hidden as before, and new pixels enter under hidden places too
+  pub shown-inside :
+      GoodRect z c
+      → (mask : List ℕ) (v u : ℕ)
+      → v < c .h
+      → u < c .w
+      → masked z mask (pasted z c new frame) (c .y + v) (c .x + u) ≡ record { seen = seenIn z mask (c .y + v) (c .x + u); value = pixels (sides c) new v u }
+  unfolding masked
+  shown-inside g mask v u hv hu = cc (pasted-inside g v u hv hu)
+
+  pub shown-outside : (mask : List ℕ) (y x : ℕ) → y < z .h → x < z .w → (Inside c y x → ⊥) → masked z mask (pasted z c new frame) y x ≡ masked z mask frame y x
+  unfolding masked
+  shown-outside mask y x hy hx o = cc (pasted-outside y x hy hx o)
 
 -- ---- map and picture
 

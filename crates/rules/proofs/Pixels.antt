@@ -1,8 +1,8 @@
--- What a window is. The window of radius q about (y, x) has each pixel of the frame at most q rows and q columns away once (`pixel-once`) and no
--- other (`pixel-none`), and its values are those of its pixels, in the same order (`window-values`). So its size is the number of its pixels. A row or
--- a column of it is the numbers of the frame at most q from y or x (`span-has`, `span-only`). Assumes nothing.
+-- What a window is. The window of radius q about (y, x) has each seen pixel of the frame at most q rows and q columns away once (`pixel-once`), no
+-- hidden one (`pixel-hidden`) and no other (`pixel-none`), and its values are those of its pixels, in the same order (`window-values`). So its size is
+-- the number of its pixels. A row or a column of its square is the numbers of the frame at most q from y or x (`span-has`, `span-only`). Assumes nothing.
 use mathlib.Core.Path.{_≡_, refl, sym, ap, _∙_}
-use mathlib.Core.Bool.{Bool, true, false, cond, _&&_}
+use mathlib.Core.Bool.{Bool, true, false, cond, _&&_, true≢false}
 use mathlib.Core.List.{List, map, foldr}
 use Prim.Native.Nat.{ℕ, zero, suc, _+_, _≤_, _<_}
 use native.Mathlib.Omega.{arith}
@@ -10,16 +10,17 @@ use native.Mathlib.Decide.{decLe}
 use lib.Dec.{eqb}
 use borrow.Author.Tests.{eqb-true, eq-eqb, ne-eqb}
 use Rattle.rules.specs.Shape.{Shape}
-use Rattle.rules.specs.Window.{Plane, low, many, square, window}
+use Rattle.rules.specs.Window.{Plane, Shown, alike, low, many, square, window}
 use Rattle.rules.specs.Light.{count}
 use Rattle.rules.specs.Fold.{Σ}
 use Rattle.rules.proofs.Local.{Within}
 use Rattle.rules.proofs.Near.{apart}
-use Rattle.rules.proofs.Fold.{fold-map, map-square, square-fold, window-square}
+use Rattle.rules.proofs.Fold.{fold-seen, map-square, square-fold}
+use Rattle.rules.proofs.Windowed.{map-window}
 
--- the plane that has the row and the column at each row and column
-abbrev pub spot : Plane (ℕ × ℕ)
-spot v u = (v, u)
+-- the plane that has the row and the column at each row and column, seen where f is
+abbrev pub spot : {A : Type 0} → Plane (Shown A) → Plane (Shown (ℕ × ℕ))
+spot f v u = alike (λ i. (v, u)) (f v u)
 
 abbrev pub same : ℕ → ℕ → ℕ × ℕ → Bool
 same v u i = eqb v (i .0) && eqb u (i .1)
@@ -62,46 +63,63 @@ sum-one a (suc n) f v l m h = go (decLe v a) (sum-one (suc a) n f v)
 
 -- ---- the pixels of a window
 
-module _ (z : Shape) (q y x v u : ℕ) where
+module _ {A : Type 0} (z : Shape) (q : ℕ) (f : Plane (Shown A)) (y x v u : ℕ) where
   one : ℕ → ℕ → ℕ
-  one i j = cond (same v u (i, j)) 1 0
+  one i j = cond (f i j .seen) (cond (same v u (i, j)) 1 0) 0
 
-  by-rows : times v u (window z q spot y x) ≡ Σ _+_ 0 (low q y) (many (z .h) q y) (λ i. Σ _+_ 0 (low q x) (many (z .w) q x) (λ j. one i j))
-  unfolding one
+  by-rows : times v u (window z q (spot f) y x) ≡ Σ _+_ 0 (low q y) (many (z .h) q y) (λ i. Σ _+_ 0 (low q x) (many (z .w) q x) (λ j. one i j))
+  unfolding one window
   by-rows =
-      let g : ℕ × ℕ → ℕ = λ i. cond (same v u i) 1 0 in
-      ap (times v u) (window-square z q spot y x)
-      ∙ fold-map _+_ 0 g (square (z .w) (z .h) q spot y x)
-      ∙ ap (foldr _+_ 0) (map-square g (z .w) (z .h) q spot y x)
-      ∙ square-fold _+_ 0 (λ a b c. omega arith) (λ a b. omega arith) refl (z .w) (z .h) q (λ i j. g (i, j)) y x
+      let g : Shown (ℕ × ℕ) → ℕ = λ i. cond (i .seen) (cond (same v u (i .value)) 1 0) 0 in
+      fold-seen _+_ 0 (λ a b c. omega arith) (λ a b. omega arith) refl (λ i. cond (same v u i) 1 0) (square (z .w) (z .h) q (spot f) y x)
+      ∙ ap (foldr _+_ 0) (map-square g (z .w) (z .h) q (spot f) y x)
+      ∙ square-fold _+_ 0 (λ a b c. omega arith) (λ a b. omega arith) refl (z .w) (z .h) q (λ i j. g (spot f i j)) y x
 
-  pub pixel-once : Within z q y x v u → times v u (window z q spot y x) ≡ 1
+  -- another pixel than (v, u) is not counted
+  one-other : (i j : ℕ) → same v u (i, j) ≡ false → one i j ≡ 0
   unfolding one
-  pixel-once w =
+  one-other i j e = go (f i j .seen) (same v u (i, j)) e
+    where
+      go : (b t : Bool) → t ≡ false → _≡_ {A = ℕ} (cond b (cond t 1 0) 0) 0
+      go false t e = refl
+      go true false e = refl
+      go true true e = absurd (true≢false e)
+
+  -- all pixels of the square count nothing
+  none : ((i j : ℕ) → Within z q y x i j → one i j ≡ 0) → times v u (window z q (spot f) y x) ≡ 0
+  none h =
+      by-rows
+      ∙ sum-none (low q y) (many (z .h) q y) _
+      (λ i a b. sum-none (low q x) (many (z .w) q x) (λ j. one i j) (λ j c d. h i j (span-within z q y x i j a b c d)))
+
+  pub pixel-once : Within z q y x v u → f v u .seen ≡ true → times v u (window z q (spot f) y x) ≡ 1
+  unfolding one
+  pixel-once w s =
       let rows = span-has (z .h) q y v (w .row) (w .above) (w .below) in
       let columns = span-has (z .w) q x u (w .column) (w .left) (w .right) in
       by-rows
       ∙ sum-one (low q y) (many (z .h) q y) _ v (rows .0) (rows .1)
-      (λ i n. sum-none (low q x) (many (z .w) q x) (λ j. one i j) (λ j _ _. rw (ne-eqb v i (λ t. n (sym t)))))
-      ∙ sum-one (low q x) (many (z .w) q x) (λ j. one v j) u (columns .0) (columns .1) (λ j n. rw (eq-eqb v v refl, ne-eqb u j (λ t. n (sym t))))
-      ∙ rw (eq-eqb v v refl, eq-eqb u u refl)
+      (λ i n. sum-none (low q x) (many (z .w) q x) (λ j. one i j) (λ j _ _. one-other i j (rw (ne-eqb v i (λ t. n (sym t))))))
+      ∙ sum-one (low q x) (many (z .w) q x) (λ j. one v j) u (columns .0) (columns .1) (λ j n. one-other v j (rw (eq-eqb v v refl, ne-eqb u j (λ t. n (sym t)))))
+      ∙ rw (s, eq-eqb v v refl, eq-eqb u u refl)
 
-  pub pixel-none : (Within z q y x v u → ⊥) → times v u (window z q spot y x) ≡ 0
-  unfolding one
-  pixel-none h =
-      by-rows
-      ∙ sum-none (low q y) (many (z .h) q y) _
-      (λ i a b. sum-none (low q x) (many (z .w) q x) (λ j. one i j) (λ j c d. go i j (span-within z q y x i j a b c d) (same v u (i, j)) refl))
+  -- a pixel of the square counts nothing if it is another than (v, u), or if (v, u) itself counts nothing
+  apart-from : (i j : ℕ) → (same v u (i, j) ≡ true → one v u ≡ 0) → one i j ≡ 0
+  apart-from i j h = go (same v u (i, j)) refl
     where
-      go : (i j : ℕ) → Within z q y x i j → (b : Bool) → same v u (i, j) ≡ b → _≡_ {A = ℕ} (cond b 1 0) 0
-      go i j w false e = refl
-      go i j w true e =
-          let t = apart (eqb v i) (eqb u j) e in
-          absurd (h (rw (eqb-true v i (t .0), eqb-true u j (t .1)) w))
+      go : (b : Bool) → same v u (i, j) ≡ b → one i j ≡ 0
+      go false e = one-other i j e
+      go true e = let t = apart (eqb v i) (eqb u j) e in rw (sym (eqb-true v i (t .0)), sym (eqb-true u j (t .1))) (h e)
+
+  pub pixel-none : (Within z q y x v u → ⊥) → times v u (window z q (spot f) y x) ≡ 0
+  pixel-none h =
+      none
+      (λ i j w. apart-from i j (λ e. let t = apart (eqb v i) (eqb u j) e in absurd (h (rw (eqb-true v i (t .0), eqb-true u j (t .1)) w))))
+
+  pub pixel-hidden : f v u .seen ≡ false → times v u (window z q (spot f) y x) ≡ 0
+  unfolding one
+  pixel-hidden s = none (λ i j w. apart-from i j (λ e. rw s))
 
 -- the values of a window are those of its pixels, in the same order
-pub window-values : {A : Type 0} (z : Shape) (q : ℕ) (f : Plane A) (y x : ℕ) → window z q f y x ≡ map (λ (i : ℕ × ℕ). f (i .0) (i .1)) (window z q spot y x)
-window-values z q f y x =
-    window-square z q f y x
-    ∙ sym (map-square (λ (i : ℕ × ℕ). f (i .0) (i .1)) (z .w) (z .h) q spot y x)
-    ∙ ap (map (λ (i : ℕ × ℕ). f (i .0) (i .1))) (sym (window-square z q spot y x))
+pub window-values : {A : Type 0} (z : Shape) (q : ℕ) (f : Plane (Shown A)) (y x : ℕ) → window z q f y x ≡ map (λ (i : ℕ × ℕ). f (i .0) (i .1) .value) (window z q (spot f) y x)
+window-values z q f y x = sym (map-window (λ (i : ℕ × ℕ). f (i .0) (i .1) .value) z q (spot f) y x)

@@ -7,9 +7,8 @@ use Prim.Native.Nat.{ℕ, suc, _+_, _-_, _≤_, _<_}
 use native.Mathlib.Omega.{arith}
 use borrow.Author.Tests.{ltb-true, leb-true, eqb-true, lt-ltb, le-ltb, eq-eqb, ne-eqb}
 use lib.Dec.{ltb, leb, eqb}
-use Rattle.rules.specs.Shape.{Shape}
 use Rattle.rules.specs.Window.{total}
-use Rattle.rules.specs.Light.{places, count, before, rank}
+use Rattle.rules.specs.Light.{count, before, rank}
 use native.Mathlib.Decide.{decLe}
 
 total-le : {A : Type 0} (f g : A → ℕ) (l : List A) → ((o : A) → f o ≤ g o) → total f l ≤ total g l
@@ -58,14 +57,14 @@ before-le d o p e = go (decLe (d p) (d o))
         omega arith
 
 -- how many pixels are above c, how many reach it, and how many stand at it before p
-unfoldable pub above : Shape → (ℕ → ℕ) → ℕ → ℕ
-above z d c = count (λ o. ltb c (d o)) (places z)
+unfoldable pub above : List ℕ → (ℕ → ℕ) → ℕ → ℕ
+above z d c = count (λ o. ltb c (d o)) z
 
-unfoldable pub reaching : Shape → (ℕ → ℕ) → ℕ → ℕ
-reaching z d c = count (λ o. leb c (d o)) (places z)
+unfoldable pub reaching : List ℕ → (ℕ → ℕ) → ℕ → ℕ
+reaching z d c = count (λ o. leb c (d o)) z
 
-unfoldable pub earlier : Shape → (ℕ → ℕ) → ℕ → ℕ → ℕ
-earlier z d c p = count (λ o. eqb c (d o) && ltb o p) (places z)
+unfoldable pub earlier : List ℕ → (ℕ → ℕ) → ℕ → ℕ → ℕ
+earlier z d c p = count (λ o. eqb c (d o) && ltb o p) z
 
 -- a + n is below m exactly when n is below what is left of m past a
 ltb-past : (a n m : ℕ) → a < m → ltb (a + n) m ≡ ltb n (m - a)
@@ -75,18 +74,18 @@ ltb-past a n m l = go (decLe (suc (a + n)) m)
     go (yes h) = lt-ltb (a + n) m h ∙ sym (lt-ltb n (m - a) (omega arith))
     go (no h) = le-ltb (a + n) m (omega arith) ∙ sym (le-ltb n (m - a) (omega arith))
 
-module _ (z : Shape) (d : ℕ → ℕ) (c m : ℕ) where
+module _ (z : List ℕ) (d : ℕ → ℕ) (c m : ℕ) where
   pub rank-above : (p : ℕ) → above z d c < m → c < d p → rank z d p < m
   unfolding above rank
   rank-above p h l =
-      let i = count-le (λ o. before d o p) (λ o. ltb c (d o)) (places z) (λ o e. lt-ltb c (d o) (let j = before-le d o p e in omega arith)) in
+      let i = count-le (λ o. before d o p) (λ o. ltb c (d o)) z (λ o e. lt-ltb c (d o) (let j = before-le d o p e in omega arith)) in
       omega arith
 
   pub rank-below : (p : ℕ) → m ≤ reaching z d c → d p < c → m ≤ rank z d p
   unfolding reaching rank
   rank-below p h l =
       let i =
-      count-le (λ o. leb c (d o)) (λ o. before d o p) (places z)
+      count-le (λ o. leb c (d o)) (λ o. before d o p) z
       (λ o e. or-yes (ltb (d p) (d o)) (eqb (d p) (d o) && ltb o p) (lt-ltb (d p) (d o) (let j = leb-true c (d o) e in omega arith))) in
       omega arith
 
@@ -94,7 +93,7 @@ module _ (z : Shape) (d : ℕ → ℕ) (c m : ℕ) where
   unfolding above earlier rank
   rank-level p e =
       rw e
-      (count-or (λ o. ltb c (d o)) (λ o. eqb c (d o) && ltb o p) (places z)
+      (count-or (λ o. ltb c (d o)) (λ o. eqb c (d o) && ltb o p) z
       (λ o t. let l = ltb-true c (d o) t in ap (λ (b : Bool). b && ltb o p) (ne-eqb c (d o) (λ f. omega arith))))
 
   -- the first m by rank are those above the cutoff, and at it the first of what is left of m

@@ -1,4 +1,4 @@
--- The recovery in naturals, by which of byte and light is larger. Assumes nothing.
+-- The recovery in naturals, by which of byte and light is larger; at a transmission of 10,000 it changes nothing (`recover-whole`). Assumes nothing.
 use mathlib.Core.Path.{_≡_, refl, sym}
 use Prim.Native.Nat.{ℕ, zero, suc, _-_, _+_, _*_, min, _≤_, _<_}
 use native.Mathlib.Decide.{decLe}
@@ -30,3 +30,14 @@ held-minus a q = go (decLe q a)
 pub recover-down : (a i t : ℕ) → i < a → recover a i t ≡ min (a - rounded ((a - i) * 10000) t) 255
 unfolding recover
 recover-down a i t h = rw (minus-lt i a h, neg-times (pos (a - i)) 10000, nearest-neg (pos ((a - i) * 10000)) t) (held-minus a (rounded ((a - i) * 10000) t))
+
+-- at a transmission of 10,000 a byte is recovered as itself
+pub recover-whole : (a i : ℕ) → i ≤ 255 → recover a i 10000 ≡ i
+recover-whole a i h = go (decLe a i)
+  where
+    whole : (d : ℕ) → rounded (d * 10000) 10000 ≡ d
+    whole d = omega arith
+
+    go : Dec (a ≤ i) → recover a i 10000 ≡ i
+    go (yes l) = let e = whole (i - a) in rw (recover-up a i 10000 l) (omega (arith, e))
+    go (no l) = let e = whole (a - i) in rw (recover-down a i 10000 (omega arith)) (omega (arith, e))

@@ -11,14 +11,14 @@ use Rattle.rules.specs.declared.Settings.{Settings}
 use Rattle.rules.specs.declared.Rgb.{Rgb}
 use Rattle.rules.specs.declared.Rect.{Rect}
 use Rattle.rules.specs.declared.Answer.{Answer}
-use Rattle.rules.specs.Window.{Plane}
+use Rattle.rules.specs.Window.{Plane, Shown}
 use Rattle.rules.specs.Setup.{Setup, shape}
-use Rattle.rules.specs.Buffers.{pixels, values, State, mapOf, pictureOf, clear, near, patch, placed, pasted, reach, replace}
+use Rattle.rules.specs.Buffers.{pixels, masked, values, State, shownBy, mapOf, pictureOf, clear, near, patch, placed, pasted, reach, replace}
 use Rattle.rules.specs.Promise.{Lent, state, lent, unless, wiped, noClear, noReplace, Replaces}
 use Rattle.rules.specs.Run.{Call, accepted, step, run, Fresh, Ran, cleared as after-clear, replaced as after-replace}
-use Rattle.rules.proofs.Local.{Agree, Local, refined-local, cleared-local}
+use Rattle.rules.proofs.Local.{Agree, Local, entry-local, cleared-local}
 use Rattle.rules.proofs.Near.{Far, far-no, far-sees}
-use Rattle.rules.proofs.Buffers.{values-entries, pixels-bytes, entries-cong, bytes-cong}
+use Rattle.rules.proofs.Buffers.{values-entries, pixels-bytes, entries-cong, bytes-cong, masked-agree}
 use Rattle.rules.proofs.Answers.{done-free}
 
 pub patch-no : {A : Type 0} (t : ℕ → ℕ → Bool) (new old : Plane A) (y x : ℕ) → t y x ≡ false → patch t new old y x ≡ old y x
@@ -34,21 +34,25 @@ module _ (z : Shape) (k : Settings) (c : Rect) (new : List ℕ) where
       let kept : f v u ≡ pixels z frame v u = patch-no (near 0 c) (placed c new) (pixels z frame) v u (far-sees z (reach k) c y x v u e w) in
       sym (pixels-bytes z f v u (w .row) (w .column) ∙ kept)
 
+  -- the mask stays, so under it they agree too
+  pub far-shown : (mask frame : List ℕ) (y x : ℕ) → near (reach k) c y x ≡ false → Agree z (reach k) y x (masked z mask frame) (masked z mask (pasted z c new frame))
+  far-shown mask frame y x e = masked-agree z mask (reach k) y x frame (pasted z c new frame) (far-agree frame y x e)
+
   -- what is brought up to date within the reach is up to date everywhere, for any rule that is local at the reach
   refresh :
-      {B : Type 0} (F : Plane Rgb → Plane B)
+      {B : Type 0} (F : Plane (Shown Rgb) → Plane B)
       → Local z (reach k) F
-      → (frame : List ℕ) (old : Plane B) (y x : ℕ)
+      → (mask frame : List ℕ) (old : Plane B) (y x : ℕ)
       → y < z .h
       → x < z .w
-      → old y x ≡ F (pixels z frame) y x
-      → patch (near (reach k) c) (F (pixels z (pasted z c new frame))) old y x ≡ F (pixels z (pasted z c new frame)) y x
+      → old y x ≡ F (masked z mask frame) y x
+      → patch (near (reach k) c) (F (masked z mask (pasted z c new frame))) old y x ≡ F (masked z mask (pasted z c new frame)) y x
   unfolding patch
-  refresh {B} F l frame old y x hy hx h = go (near (reach k) c y x) refl
+  refresh {B} F l mask frame old y x hy hx h = go (near (reach k) c y x) refl
     where
-      go : (b : Bool) → near (reach k) c y x ≡ b → cond b (F (pixels z (pasted z c new frame)) y x) (old y x) ≡ F (pixels z (pasted z c new frame)) y x
+      go : (b : Bool) → near (reach k) c y x ≡ b → cond b (F (masked z mask (pasted z c new frame)) y x) (old y x) ≡ F (masked z mask (pasted z c new frame)) y x
       go true e = refl
-      go false e = h ∙ l (pixels z frame) (pixels z (pasted z c new frame)) y x hy hx (far-agree frame y x e)
+      go false e = h ∙ l (masked z mask frame) (masked z mask (pasted z c new frame)) y x hy hx (far-shown mask frame y x e)
 
 -- ---- a run of calls
 
@@ -58,13 +62,13 @@ module _ (p : Setup) where
   replace-fresh c new frame =
       let z = shape p in
       let k = p .settings in
-      let f = pixels z frame in
+      let f = shownBy p frame in
       let map =
       entries-cong z _ _
-      (λ y x hy hx. refresh z k c new (mapOf p) (refined-local z k (p .light)) frame _ y x hy hx (values-entries z (mapOf p f) y x hy hx)) in
+      (λ y x hy hx. refresh z k c new (mapOf p) (entry-local z k (p .light)) (p .mask) frame _ y x hy hx (values-entries z (mapOf p f) y x hy hx)) in
       let picture =
       bytes-cong z _ _
-      (λ y x hy hx. refresh z k c new (pictureOf p) (cleared-local z k (p .light)) frame _ y x hy hx (pixels-bytes z (pictureOf p f) y x hy hx)) in
+      (λ y x hy hx. refresh z k c new (pictureOf p) (cleared-local z k (p .light)) (p .mask) frame _ y x hy hx (pixels-bytes z (pictureOf p f) y x hy hx)) in
       λ i. record { frame = pasted z c new frame; map = map i; picture = picture i }
 
   -- an accepted call keeps a fresh state fresh

@@ -9,7 +9,7 @@ use native.Mathlib.Omega.{arith}
 use Rattle.rules.specs.Shape.{Shape}
 use Rattle.rules.specs.declared.Settings.{Settings}
 use Rattle.rules.specs.declared.Rgb.{Rgb}
-use Rattle.rules.specs.Window.{Plane, window, least}
+use Rattle.rules.specs.Window.{Plane, Shown, window, least}
 use Rattle.rules.specs.Transmission.{ratio, leastRatio, coarseOf, coarse}
 use Rattle.rules.specs.Good.{GoodLight}
 use Rattle.rules.specs.Fraction.{Fraction, whole, _+ᶠ_, _-ᶠ_, _*ᶠ_, _/ᶠ_, _<ᶠ_, _≤ᶠ_, smaller, part, Over}
@@ -115,7 +115,7 @@ coarse-of ω d p hω hd k =
     coarse-at ω c (coarseOf ω d) (k .D) (k .x) p (omega arith) (k .worth) (k .some) (coarse-low ω d c (k .x) (k .D) l g′ (k .most) (k .least))
     (coarse-high ω d c (k .x) (k .D) l g′ (k .most) (k .least) (k .some))
 
-pub coarse-off : (z : Shape) (k : Settings) (a : Rgb) (f : Plane Rgb) (y x : ℕ) → GoodLight a → k .omega ≤ 10000
+pub coarse-off : (z : Shape) (k : Settings) (a : Rgb) (f : Plane (Shown Rgb)) (y x : ℕ) → GoodLight a → k .omega ≤ 10000
     → Over (coarseOver (k .omega)) (coarse z k a f y x) (coarseᶠ z k a f y x)
 unfolding coarse coarseᶠ
 coarse-off z k a f y x h ho =

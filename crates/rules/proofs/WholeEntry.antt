@@ -1,6 +1,7 @@
--- The map entry against the guided filter in exact arithmetic on the same coarse values, held alike: less than 1 + 766/1024 ten-thousandths too low
--- and less than 765/1024 too high (`entry-off`), and so within 7/4 and 3/4 (`entry-quarters`). Assumes nothing.
+-- The map entry of a seen pixel against the guided filter in exact arithmetic on the same coarse values, held alike: less than 1 + 766/1024
+-- ten-thousandths too low and less than 765/1024 too high (`entry-off`), and so within 7/4 and 3/4 (`entry-quarters`). Assumes nothing.
 use mathlib.Core.Path.{_≡_, refl, sym, ap}
+use mathlib.Core.Bool.{true}
 use mathlib.Core.List.{List, [], _∷_, map}
 use Prim.Native.Nat.{ℕ, _+_, _*_, _≤_, _<_}
 use native.Mathlib.Nat.{mul-pos, mul-le-mul-left, mul-le-mul-right}
@@ -11,9 +12,9 @@ use lib.Signed.{shrZ}
 use Rattle.rules.specs.Shape.{Shape}
 use Rattle.rules.specs.declared.Settings.{Settings}
 use Rattle.rules.specs.declared.Rgb.{Rgb}
-use Rattle.rules.specs.Window.{Plane, window, totalZ}
+use Rattle.rules.specs.Window.{Plane, Shown, alike, window, totalZ}
 use Rattle.rules.specs.Light.{guide}
-use Rattle.rules.specs.Transmission.{Sample, sample, Sg, slope, offset, Line, line, fit, refineOf, refine, refined}
+use Rattle.rules.specs.Transmission.{Sample, sample, Sg, slope, offset, Line, line, fit, refineOf, refine, refined, mapEntry}
 use Rattle.rules.specs.Fraction.{Fraction, whole, _+ᶠ_, _*ᶠ_, _/ᶠ_, heldᶠ, sum, Off}
 use Rattle.rules.specs.Exact.{slopeᶠ, offsetᶠ, Lineᶠ, lineᶠ, fitᶠ, refineᶠ, refinedᶠ, entryUnder, entryOver}
 use Rattle.rules.proofs.Fold.{fold-map}
@@ -21,7 +22,8 @@ use Rattle.rules.proofs.Signs.{up, down, plus-is, times-is, shr-is}
 use Rattle.rules.proofs.Worth.{Worth, worth-as, worth-scale, worth-whole, worth-over, worth-part, worth-add, worth-line}
 use Rattle.rules.proofs.WorthOrder.{lt-worth}
 use Rattle.rules.proofs.WorthHeld.{Held, worth-hold}
-use Rattle.rules.proofs.Windowed.{All, none, more, all-window, window-some, map-window}
+use Rattle.rules.proofs.Windowed.{All, none, more, all-window, map-window}
+use Rattle.rules.proofs.Seen.{window-some, entry-seen}
 use Rattle.rules.proofs.WholeLine.{Near}
 use Rattle.rules.proofs.WholeSums.{Full, bottoms, bottoms-pos, windows-near}
 
@@ -81,17 +83,18 @@ guides [] none = omega arith
 guides (i ∷ l) (more h k) = let r = guides l k in omega arith
 
 window-full :
-    (z : Shape) (k : Settings) (a : Rgb) (f : Plane Rgb)
-    → ((v u : ℕ) → guide (f v u) ≤ 765)
+    (z : Shape) (k : Settings) (a : Rgb) (f : Plane (Shown Rgb))
+    → ((v u : ℕ) → guide (f v u .value) ≤ 765)
     → (v u : ℕ)
     → v < z .h
     → u < z .w
+    → f v u .seen ≡ true
     → Full (window z (k .r) (sample z k a f) v u)
 unfolding sample
-window-full z k a f bytes v u hv hu =
+window-full z k a f bytes v u hv hu s =
     record {
-      some = window-some z (k .r) (sample z k a f) v u hv hu;
-      most = guides _ (all-window (λ (i : Sample). i .g ≤ 765) z (k .r) (sample z k a f) v u (λ v′ u′ _. bytes v′ u′));
+      some = window-some z (k .r) (sample z k a f) v u hv hu s;
+      most = guides _ (all-window (λ (i : Sample). i .g ≤ 765) z (k .r) (sample z k a f) v u (λ v′ u′ _ _. bytes v′ u′));
     }
 
 -- ---- within any bounds that are at least 1790 and 765 of 1024
@@ -121,19 +124,21 @@ module _ {under over : Fraction} (m n : ℕ) (wm : Worth under m 0 1024) (wn : W
       let w = windows-near e g he hg ls f in
       rw (refineᶠ-is (slopeᶠ e) (offsetᶠ e) g ls, refine-is e g ls) (off _ (bottoms e ls * length ls) _ (mul-pos hD hN) (entry-held g (length ls) (bottoms e ls) hN hD _ _ _ _ w))
 
-  entry-within : (z : Shape) (k : Settings) (a : Rgb) (f : Plane Rgb) (y x : ℕ) → 0 < k .e → ((v u : ℕ) → guide (f v u) ≤ 765) → y < z .h → x < z .w
-      → Off under over (refined z k a f y x) (heldᶠ 10000 (refinedᶠ z k a f y x))
+  entry-within : (z : Shape) (k : Settings) (a : Rgb) (f : Plane (Shown Rgb)) (y x : ℕ) → 0 < k .e → ((v u : ℕ) → guide (f v u .value) ≤ 765) → y < z .h → x < z .w
+      → f y x .seen ≡ true
+      → Off under over (mapEntry z k a f y x) (heldᶠ 10000 (refinedᶠ z k a f y x))
   unfolding refined refinedᶠ fit fitᶠ
-  entry-within z k a f y x he bytes hy hx =
-      let W : Plane (List Sample) = window z (k .r) (sample z k a f) in
-      rw (map-window (line (k .e)) z (k .r) W y x, map-window (lineᶠ (k .e)) z (k .r) W y x) at
-      (filter-within (k .e) (guide (f y x)) he (bytes y x) (window z (k .r) W y x) (window-some z (k .r) W y x hy hx)
-      (all-window Full z (k .r) W y x (λ v u w. window-full z k a f bytes v u (w .row) (w .column))))
+  entry-within z k a f y x he bytes hy hx s =
+      let W : Plane (Shown (List Sample)) = λ v u. alike (λ _. window z (k .r) (sample z k a f) v u) (f v u) in
+      rw (entry-seen z k a f y x s)
+      (rw (map-window (line (k .e)) z (k .r) W y x, map-window (lineᶠ (k .e)) z (k .r) W y x) at
+      (filter-within (k .e) (guide (f y x .value)) he (bytes y x) (window z (k .r) W y x) (window-some z (k .r) W y x hy hx s)
+      (all-window Full z (k .r) W y x (λ v u w. window-full z k a f bytes v u (w .row) (w .column)))))
 
-module _ (z : Shape) (k : Settings) (a : Rgb) (f : Plane Rgb) (y x : ℕ) (he : 0 < k .e) (bytes : (v u : ℕ) → guide (f v u) ≤ 765) (hy : y < z .h) (hx : x < z .w) where
-  pub entry-off : Off entryUnder entryOver (refined z k a f y x) (heldᶠ 10000 (refinedᶠ z k a f y x))
+module _ (z : Shape) (k : Settings) (a : Rgb) (f : Plane (Shown Rgb)) (y x : ℕ) (he : 0 < k .e) (bytes : (v u : ℕ) → guide (f v u .value) ≤ 765) (hy : y < z .h) (hx : x < z .w) (s : f y x .seen ≡ true) where
+  pub entry-off : Off entryUnder entryOver (mapEntry z k a f y x) (heldᶠ 10000 (refinedᶠ z k a f y x))
   entry-off =
-      entry-within _ _ (worth-add (worth-over 1 1024) (worth-part _ 1024 1 (omega arith))) (worth-part _ 1024 1 (omega arith)) (omega arith) (omega arith) z k a f y x he bytes hy hx
+      entry-within _ _ (worth-add (worth-over 1 1024) (worth-part _ 1024 1 (omega arith))) (worth-part _ 1024 1 (omega arith)) (omega arith) (omega arith) z k a f y x he bytes hy hx s
 
-  pub entry-quarters : Off (whole 7 /ᶠ whole 4) (whole 3 /ᶠ whole 4) (refined z k a f y x) (heldᶠ 10000 (refinedᶠ z k a f y x))
-  entry-quarters = entry-within _ _ (worth-part 7 4 256 (omega arith)) (worth-part 3 4 256 (omega arith)) (omega arith) (omega arith) z k a f y x he bytes hy hx
+  pub entry-quarters : Off (whole 7 /ᶠ whole 4) (whole 3 /ᶠ whole 4) (mapEntry z k a f y x) (heldᶠ 10000 (refinedᶠ z k a f y x))
+  entry-quarters = entry-within _ _ (worth-part 7 4 256 (omega arith)) (worth-part 3 4 256 (omega arith)) (omega arith) (omega arith) z k a f y x he bytes hy hx s

@@ -5,7 +5,7 @@ use Prim.Native.Nat.{ℕ, zero, suc}
 use Rattle.rules.specs.Shape.{Shape}
 use Rattle.rules.specs.declared.Settings.{Settings}
 use Rattle.rules.specs.declared.Rgb.{Rgb}
-use Rattle.rules.specs.Window.{Plane, square, window}
+use Rattle.rules.specs.Window.{Plane, Shown, plain, square, window}
 use Rattle.rules.specs.Transmission.{coarse, sample, line, fit, refine, refined}
 use Rattle.rules.specs.Picture.{recover, haze}
 use Rattle.rules.specs.Fraction.{Fraction, whole, _+ᶠ_, _-ᶠ_, _*ᶠ_, turned, _/ᶠ_, _<ᶠ_, _≤ᶠ_, smaller, larger, heldᶠ}
@@ -14,11 +14,14 @@ use Rattle.rules.specs.Exact.{ratioᶠ, leastRatioᶠ, coarseᶠ, slope�
 abbrev grey : ℕ → Rgb
 grey n = record { r = n; g = n; b = n }
 
--- the first pixel is i and each other j
-abbrev lone : Rgb → Rgb → Plane Rgb
-lone i j zero zero = i
-lone i j zero (suc x) = j
-lone i j (suc y) x = j
+-- the first pixel is i and each other j, and all are seen
+abbrev pixel : Rgb → Rgb → Plane Rgb
+pixel i j zero zero = i
+pixel i j zero (suc x) = j
+pixel i j (suc y) x = j
+
+abbrev lone : Rgb → Rgb → Plane (Shown Rgb)
+lone i j = plain (pixel i j)
 
 abbrev sized : ℕ → ℕ → Shape
 sized w h = record { w = w; h = h }

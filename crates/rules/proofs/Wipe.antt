@@ -1,7 +1,7 @@
 -- The work area after an accepted call: 0 in its first 8·(W+1)·(H+1) entries, the rest untouched, its length kept. Of the rules (`wiped-is`), and of
 -- each call that is lent one and keeps its promise (`lights-wiped`, `clears-wiped`, `replaces-wiped`). Assumes nothing.
 use mathlib.Core.Path.{_≡_, sym, ap, _∙_}
-use mathlib.Core.Bool.{false, _||_}
+use mathlib.Core.Bool.{Bool, false, _||_}
 use mathlib.Core.List.{List, _++_}
 use Prim.Native.Nat.{ℕ, _+_, _-_, _*_, _≤_, _<_}
 use native.Mathlib.Omega.{arith}
@@ -16,8 +16,8 @@ use Rattle.rules.specs.declared.Answer.{Answer}
 use Rattle.rules.specs.declared.Answer.the-variants.{Done}
 use Rattle.rules.specs.declared.Found.{Found}
 use Rattle.rules.specs.Setup.{Setup, shape}
-use Rattle.rules.specs.Refusals.{badFrame, badMap, badWork, refuseLight}
-use Rattle.rules.specs.Promise.{wiped, Lent, foundSaid, noClear, noReplace, afterClear, afterReplace, Lights, Clears, Replaces}
+use Rattle.rules.specs.Refusals.{badMask, badFrame, badMap, badWork, badSeen}
+use Rattle.rules.specs.Promise.{wiped, Lent, foundSaid, noLight, noClear, noReplace, afterClear, afterReplace, Lights, Clears, Replaces}
 use Rattle.rules.proofs.Good.{neither, work-good}
 use Rattle.rules.proofs.Exactly.{light-exact, clear-exact, replace-exact}
 use Rattle.rules.proofs.Answers.{said-found, done-free}
@@ -63,29 +63,35 @@ wiped-is z work h =
 
 -- ---- of the calls
 
-pub lights-wiped : (z : Size) (k : Settings) (frame : List ℕ) (work work′ : List ℤ) (r : Found) → Lights z k frame work r work′ → foundSaid r ≡ 0 → Wiped (z .w) (z .h) work work′
-lights-wiped z k frame work work′ r q e =
-    let n = refuseLight z k (length frame) (length work) in
+-- test 4 has the work area last
+roomy : (z : Size) (others : Bool) (n : ℕ) → (others || badWork z n) ≡ false → 8 * ((z .w + 1) * (z .h + 1)) ≤ n
+roomy z others n e = omega (arith, work-good z n (neither others (badWork z n) e .1))
+
+pub lights-wiped :
+    (z : Size) (k : Settings) (mask frame : List ℕ) (work work′ : List ℤ) (r : Found)
+    → Lights z k mask frame work r work′
+    → foundSaid r ≡ 0
+    → Wiped (z .w) (z .h) work work′
+lights-wiped z k mask frame work work′ r q e =
+    let n = noLight z k mask frame work in
     let free : n ≡ 0 = sym (said-found n _) ∙ ap foundSaid (sym (q .answer)) ∙ e in
     let left : work′ ≡ wiped (described z) work = rw free at (q .after) in
-    rw left
-    (wiped-is (described z) work (omega (arith, work-good z (length work) (light-exact z k (length frame) (length work) .free free .1 .1 .1 .0))))
+    let four = light-exact z k (length mask) (badSeen mask) (length frame) (length work) .free free .1 .1 .1 .0 in
+    rw left (wiped-is (described z) work (roomy z (badMask z (length mask)) (length work) four))
 
 module _ (p : Setup) where
-  -- test 4 has the work area last
-  roomy : (l : Lent) → (badFrame (p .size) (length (l .picture)) || badMap (p .size) (length (l .map)) || badWork (p .size) (length (l .work))) ≡ false → 8 * ((p .size .w + 1) * (p .size .h + 1)) ≤ length (l .work)
-  roomy l e =
-      let others = badFrame (p .size) (length (l .picture)) || badMap (p .size) (length (l .map)) in
-      omega (arith, work-good (p .size) (length (l .work)) (neither others (badWork (p .size) (length (l .work))) e .1))
+  -- the others of test 4, for Clear and for Replace
+  abbrev others : Lent → Bool
+  others l = badMask (p .size) (length (p .mask)) || badFrame (p .size) (length (l .picture)) || badMap (p .size) (length (l .map))
 
   pub clears-wiped : (l m : Lent) (r : Answer) → Clears p l r m → r ≡ Done → Wiped (p .size .w) (p .size .h) (l .work) (m .work)
   clears-wiped l m r q e =
       let free : noClear p l ≡ 0 = done-free (noClear p l) (sym (q .answer) ∙ e) in
       let left : m ≡ afterClear p l = rw free at (q .after) in
-      rw left (wiped-is (shape p) (l .work) (roomy l (clear-exact p l .free free .1 .1 .1 .0)))
+      rw left (wiped-is (shape p) (l .work) (roomy (p .size) (others l) (length (l .work)) (clear-exact p l .free free .1 .1 .1 .0)))
 
   pub replaces-wiped : (c : Rect) (new : List ℕ) (l m : Lent) (r : Answer) → Replaces p c new l r m → r ≡ Done → Wiped (p .size .w) (p .size .h) (l .work) (m .work)
   replaces-wiped c new l m r q e =
       let free : noReplace p c new l ≡ 0 = done-free (noReplace p c new l) (sym (q .answer) ∙ e) in
       let left : m ≡ afterReplace p c new l = rw free at (q .after) in
-      rw left (wiped-is (shape p) (l .work) (roomy l (replace-exact p c new l .free free .1 .1 .1 .0)))
+      rw left (wiped-is (shape p) (l .work) (roomy (p .size) (others l) (length (l .work)) (replace-exact p c new l .free free .1 .1 .1 .0)))

@@ -2,16 +2,16 @@
 -- Then what Haze, Clear and Replace leave in them. Assumes nothing.
 use Prim.Native.Nat.{ℕ, zero, suc, _+_, _-_, _*_, _/_, _%_}
 use mathlib.Core.List.{List}
-use mathlib.Core.Bool.{Bool, cond, _&&_}
+use mathlib.Core.Bool.{Bool, not, cond, _&&_}
 use lib.ListN.{getD}
-use lib.Dec.{ltb, leb}
+use lib.Dec.{ltb, leb, eqb}
 use Rattle.rules.specs.Shape.{Shape}
 use Rattle.rules.specs.declared.Settings.{Settings}
 use Rattle.rules.specs.declared.Rgb.{Rgb}
 use Rattle.rules.specs.declared.Rect.{Rect}
-use Rattle.rules.specs.Window.{Plane, from}
+use Rattle.rules.specs.Window.{Plane, Shown, from}
 use Rattle.rules.specs.Light.{at}
-use Rattle.rules.specs.Transmission.{refined}
+use Rattle.rules.specs.Transmission.{mapEntry}
 use Rattle.rules.specs.Picture.{cleared, haze3}
 use Rattle.rules.specs.Setup.{Setup, shape}
 
@@ -23,6 +23,17 @@ pixelAt l p = record { r = getD l (3 * p) 0; g = getD l (3 * p + 1) 0; b = getD 
 
 unfoldable pub pixels : Shape → List ℕ → Plane Rgb
 pixels z l y x = pixelAt l (y * z .w + x)
+
+-- ---- a mask: one byte a pixel, in row order; 0 hides it
+
+unfoldable pub seenIn : Shape → List ℕ → Plane Bool
+seenIn z mask y x = not (eqb (getD mask (y * z .w + x) 0) 0)
+
+-- the frame's pixels, seen or hidden
+unfoldable pub masked : Shape → List ℕ → List ℕ → Plane (Shown Rgb)
+masked z mask frame y x = record { seen = seenIn z mask y x; value = pixels z frame y x }
+
+-- ---- and back
 
 abbrev pub channel : ℕ → Rgb → ℕ
 channel zero i = i .r
@@ -57,17 +68,20 @@ pub record State : Type 0 where
   pub map : List ℕ
   pub picture : List ℕ
 
--- map and picture of a frame's pixels
-abbrev pub mapOf : Setup → Plane Rgb → Plane ℕ
-mapOf p = refined (shape p) (p .settings) (p .light)
+-- a frame's pixels under the setup's mask, and their map and picture
+abbrev pub shownBy : Setup → List ℕ → Plane (Shown Rgb)
+shownBy p frame = masked (shape p) (p .mask) frame
 
-abbrev pub pictureOf : Setup → Plane Rgb → Plane Rgb
+abbrev pub mapOf : Setup → Plane (Shown Rgb) → Plane ℕ
+mapOf p = mapEntry (shape p) (p .settings) (p .light)
+
+abbrev pub pictureOf : Setup → Plane (Shown Rgb) → Plane Rgb
 pictureOf p = cleared (shape p) (p .settings) (p .light)
 
 unfoldable pub clear : Setup → List ℕ → State
 clear p frame =
     let z = shape p in
-    record { frame = frame; map = entries z (mapOf p (pixels z frame)); picture = bytes z (pictureOf p (pixels z frame)) }
+    record { frame = frame; map = entries z (mapOf p (shownBy p frame)); picture = bytes z (pictureOf p (shownBy p frame)) }
 
 -- ---- Replace
 
@@ -101,6 +115,6 @@ unfoldable pub replace : Setup → Rect → List ℕ → State → State
 replace p c new s =
     let z = shape p in
     let frame = pasted z c new (s .frame) in
-    let f = pixels z frame in
+    let f = shownBy p frame in
     let t = near (reach (p .settings)) c in
     record { frame = frame; map = mapWith z t (mapOf p f) (s .map); picture = frameWith z t (pictureOf p f) (s .picture) }

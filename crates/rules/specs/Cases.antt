@@ -1,7 +1,9 @@
 -- The paper's proved cases P1 to P11, and rows of our own where these do not tell two rules apart, as a table: what the rules give, and what is wanted.
--- The wanted values of our own rows are those of the independent second program. Assumes nothing.
+-- The wanted values of our own rows are those of the independent second program. In these rows all is seen; those under a mask are in CasesMask.
+-- Assumes nothing.
 use Prim.Native.Nat.{ℕ, _+_, _*_, _%_}
 use mathlib.Core.List.{List, [], _∷_, _++_, map}
+use mathlib.Core.Bool.{false}
 use lib.ListN.{length, replicate}
 use lib.IntN.{ℤ, pos, negℤ}
 use lib.Ieee.{binary64, toBits}
@@ -11,12 +13,12 @@ use Rattle.rules.specs.declared.Settings.{Settings}
 use Rattle.rules.specs.declared.Rgb.{Rgb}
 use Rattle.rules.specs.declared.Rect.{Rect}
 use Rattle.rules.specs.declared.Figure.{Figure}
-use Rattle.rules.specs.Window.{from, window}
+use Rattle.rules.specs.Window.{plain, from, window}
 use Rattle.rules.specs.Light.{at, m, light}
-use Rattle.rules.specs.Transmission.{ratio, fit, refined}
+use Rattle.rules.specs.Transmission.{ratio, fit, mapEntry}
 use Rattle.rules.specs.Picture.{recover, haze, figure}
 use Rattle.rules.specs.Setup.{handed}
-use Rattle.rules.specs.Buffers.{State, pixels, clear, replace, hazed}
+use Rattle.rules.specs.Buffers.{State, masked, clear, replace, hazed}
 use Rattle.rules.specs.Refusals.{refuseLight, refuseClear, refuseReplace, refuseHaze, refuseBand}
 
 -- up to 11, `no` is the paper's case P`no`; from 12 on the rows are our own
@@ -27,40 +29,44 @@ pub record Row : Type 0 where
 
 -- ---- what the rows are written with
 
-abbrev shape : ℕ → ℕ → Shape
+abbrev pub shape : ℕ → ℕ → Shape
 shape w h = record { w = w; h = h }
 
-abbrev size : ℕ → ℕ → Size
+abbrev pub size : ℕ → ℕ → Size
 size w h = record { w = w; h = h }
 
-abbrev set : ℕ → ℕ → ℕ → ℕ → ℕ → ℕ → Settings
+abbrev pub set : ℕ → ℕ → ℕ → ℕ → ℕ → ℕ → Settings
 set s r omega e t0 share = record { s = s; r = r; omega = omega; e = e; t0 = t0; share = share }
 
 -- the defaults, at the radii s and r
-abbrev radii : ℕ → ℕ → Settings
+abbrev pub radii : ℕ → ℕ → Settings
 radii s r = set s r 9500 59 1000 1
 
-abbrev rgb : ℕ → ℕ → ℕ → Rgb
+abbrev pub rgb : ℕ → ℕ → ℕ → Rgb
 rgb r g b = record { r = r; g = g; b = b }
 
-abbrev nats : List ℕ → List ℤ
+abbrev pub nats : List ℕ → List ℤ
 nats l = map pos l
 
-abbrev colour : Rgb → List ℕ
+abbrev pub colour : Rgb → List ℕ
 colour i = i .r ∷ i .g ∷ i .b ∷ []
 
 abbrev bits : Figure → List ℤ
 bits f = nats (toBits binary64 (f .mean) ∷ toBits binary64 (f .least) ∷ [])
 
+-- all is seen
+abbrev ones : Shape → List ℕ
+ones z = replicate (z .w * z .h) 1
+
 abbrev found : Shape → Settings → List ℕ → Rgb
-found z k frame = light z k (pixels z frame)
+found z k frame = light z k (masked z (ones z) frame)
 
 abbrev lit : Shape → Settings → List ℕ → List ℤ
 lit z k frame = nats (colour (found z k frame))
 
 -- map and picture under a light
 abbrev under : Shape → Settings → Rgb → List ℕ → List ℤ
-under z k a frame = let s = clear (handed (size (z .w) (z .h)) k a) frame in nats (s .map ++ s .picture)
+under z k a frame = let s = clear (handed (size (z .w) (z .h)) k a (ones z)) frame in nats (s .map ++ s .picture)
 
 -- the light that is found, then map and picture under it
 abbrev all : Shape → Settings → List ℕ → List ℤ
@@ -69,7 +75,7 @@ all z k frame = lit z k frame ++ under z k (found z k frame) frame
 -- slope and offset at column x of the first row, under the light that is found
 abbrev line : Shape → Settings → List ℕ → ℕ → List ℤ
 line z k frame x =
-    let l = fit z k (found z k frame) (pixels z frame) 0 x in
+    let l = fit z k (found z k frame) (masked z (ones z) frame) 0 x .value in
     l .a ∷ l .b ∷ []
 
 abbrev two : List ℕ
@@ -77,11 +83,14 @@ two = 200 ∷ 200 ∷ 200 ∷ 100 ∷ 150 ∷ 180 ∷ []
 
 -- how many pixels a window of radius 1 has in a frame of 3 by 3
 abbrev many : ℕ → ℕ → ℕ
-many y x = length {A = ℕ} (window (shape 3 3) 1 (λ v u. 0) y x)
+many y x = length {A = ℕ} (window (shape 3 3) 1 (plain (λ v u. 0)) y x)
 
 -- a frame of 4 by 3 in which no two neighbours are alike, and its map under the light (200, 180, 190) at radii 1 and 1
-abbrev field : List ℕ
-field = from 0 36 (λ k. (k * 37 + 11) % 256)
+abbrev pub byte : ℕ → ℕ
+byte k = (k * 37 + 11) % 256
+
+abbrev pub field : List ℕ
+field = from 0 36 byte
 
 abbrev fieldMap : List ℕ
 fieldMap = 9443 ∷ 9340 ∷ 9305 ∷ 9260 ∷ 9338 ∷ 9352 ∷ 9225 ∷ 9262 ∷ 9272 ∷ 9305 ∷ 9227 ∷ 9181 ∷ []
@@ -92,7 +101,7 @@ broad n = from 0 n (λ k. 60 + (k * 37 + 11) % 190)
 
 -- map entries at some positions, under a light
 abbrev mapAt : Shape → Settings → Rgb → List ℕ → List ℕ → List ℤ
-mapAt z k a frame l = nats (map (λ p. at z (refined z k a (pixels z frame)) p) l)
+mapAt z k a frame l = nats (map (λ p. at z (mapEntry z k a (masked z (ones z) frame)) p) l)
 
 -- a map of 2 by 3 with its least entry in the first row
 abbrev low : List ℕ
@@ -100,11 +109,8 @@ low = 519 ∷ 10 ∷ 5230 ∷ 7000 ∷ 9999 ∷ 20 ∷ []
 
 -- ---- Replace, under the light (200, 180, 190), where a map holds 1 and a picture 7
 
-abbrev rect : ℕ → ℕ → ℕ → ℕ → Rect
+abbrev pub rect : ℕ → ℕ → ℕ → ℕ → Rect
 rect x y w h = record { x = x; y = y; w = w; h = h }
-
-abbrev byte : ℕ → ℕ
-byte k = (k * 37 + 11) % 256
 
 abbrev fresh : ℕ → ℕ
 fresh k = k * 11 + 40
@@ -113,7 +119,7 @@ abbrev put : Size → Settings → Rect → List ℕ → State
 put z k c frame =
     let n : ℕ = z .w * z .h in
     let old : State = record { frame = frame; map = replicate n 1; picture = replicate (3 * n) 7 } in
-    replace (handed z k (rgb 200 180 190)) c (from 0 (3 * (c .w * c .h)) fresh) old
+    replace (handed z k (rgb 200 180 190) (replicate n 1)) c (from 0 (3 * (c .w * c .h)) fresh) old
 
 abbrev block : State
 block = put (size 5 4) (radii 1 0) (rect 2 0 3 2) (from 0 60 byte)
@@ -136,18 +142,18 @@ abbrev room : ℕ → ℕ → ℕ
 room w h = 8 * ((w + 1) * (h + 1))
 
 abbrev sizeNo : ℕ → ℕ → ℕ
-sizeNo w h = refuseLight (size w h) (radii 0 0) (3 * (w * h)) (room w h)
+sizeNo w h = refuseLight (size w h) (radii 0 0) (w * h) false (3 * (w * h)) (room w h)
 
 abbrev settingsNo : Settings → ℕ
-settingsNo k = refuseLight (size 1 1) k 3 32
+settingsNo k = refuseLight (size 1 1) k 1 false 3 32
 
 -- Clear of 2 by 1 with other lengths and another light
 abbrev clearNo : ℕ → ℕ → ℕ → ℕ → Rgb → ℕ
-clearNo frame map picture work a = refuseClear (size 2 1) (radii 0 0) a frame map picture work
+clearNo frame map picture work a = refuseClear (size 2 1) (radii 0 0) a 2 frame map picture work
 
 -- Replace in 5 by 4
 abbrev replaceNo : ℕ → ℕ → ℕ → ℕ → ℕ → ℕ
-replaceNo x y w h new = refuseReplace (size 5 4) (radii 0 0) (rgb 1 1 1) (rect x y w h) new 60 20 60 240
+replaceNo x y w h new = refuseReplace (size 5 4) (radii 0 0) (rgb 1 1 1) (rect x y w h) new 20 60 20 60 240
 
 -- Haze of 2 by 1
 abbrev hazeNo : ℕ → List ℕ → ℕ → Rgb → ℕ
@@ -186,7 +192,7 @@ table =
     ∷ record { no = 6; got = nats (recover 100 101 3000 ∷ recover 100 99 3000 ∷ []); want = nats (103 ∷ 97 ∷ []) }
     ∷ record {
       no = 7;
-      got = nats (m (shape 999 1) (radii 0 0) ∷ m (shape 1000 1) (radii 0 0) ∷ m (shape 1000 2) (radii 0 0) ∷ []);
+      got = nats (m 999 (radii 0 0) ∷ m 1000 (radii 0 0) ∷ m 2000 (radii 0 0) ∷ []);
       want = nats (1 ∷ 1 ∷ 2 ∷ []);
     }
     ∷ record { no = 8; got = nats (haze 255 0 5000 ∷ []); want = nats (128 ∷ []) }
@@ -283,7 +289,7 @@ table =
     ∷ record { no = 19; got = nats (haze 1 2 4999 ∷ haze 1 2 5000 ∷ []); want = nats (1 ∷ 2 ∷ []) }
     ∷ record {
       no = 19;
-      got = nats (hazed (shape 2 2) (rgb 200 180 190) (from 0 12 (λ k. (k * 37 + 11) % 256)) (9443 ∷ 9340 ∷ 9305 ∷ 9260 ∷ []));
+      got = nats (hazed (shape 2 2) (rgb 200 180 190) (from 0 12 byte) (9443 ∷ 9340 ∷ 9305 ∷ 9260 ∷ []));
       want = nats (22 ∷ 55 ∷ 91 ∷ 127 ∷ 160 ∷ 196 ∷ 231 ∷ 26 ∷ 61 ∷ 96 ∷ 129 ∷ 164 ∷ []);
     }
     -- a band that leaves rows out
@@ -439,19 +445,19 @@ table =
     ∷ record { no = 34; got = nats (strip (size 9 1) (rect 0 0 2 1)); want = nats (8198 ∷ 7968 ∷ 6769 ∷ 6739 ∷ 6230 ∷ 1 ∷ 1 ∷ 1 ∷ 1 ∷ []) }
     ∷ record { no = 34; got = nats (strip (size 1 9) (rect 0 7 1 2)); want = nats (1 ∷ 1 ∷ 1 ∷ 1 ∷ 6392 ∷ 6199 ∷ 7701 ∷ 7901 ∷ 8100 ∷ []) }
     -- m, just below 2
-    ∷ record { no = 35; got = nats (m (shape 1999 1) (radii 0 0) ∷ m (shape 10 10) (set 0 0 9500 59 1000 15) ∷ []); want = nats (1 ∷ 1 ∷ []) }
+    ∷ record { no = 35; got = nats (m 1999 (radii 0 0) ∷ m 100 (set 0 0 9500 59 1000 15) ∷ []); want = nats (1 ∷ 1 ∷ []) }
     -- Light: each number alone, then with the next
     ∷ record {
       no = 36;
       got = nats
-          (refuseLight (size 0 1) (radii 0 0) 0 16
-          ∷ refuseLight (size 2 1) (radii 31 0) 6 48
-          ∷ refuseLight (size 2 1) (radii 0 0) 5 48
-          ∷ refuseLight (size 2 1) (radii 0 0) 6 47
-          ∷ refuseLight (size 0 1) (radii 31 0) 0 16
-          ∷ refuseLight (size 2 1) (radii 31 0) 5 48
-          ∷ refuseLight (size 2 1) (radii 0 0) 5 47
-          ∷ refuseLight (size 2 1) (radii 0 0) 6 48
+          (refuseLight (size 0 1) (radii 0 0) 0 false 0 16
+          ∷ refuseLight (size 2 1) (radii 31 0) 2 false 6 48
+          ∷ refuseLight (size 2 1) (radii 0 0) 2 false 5 48
+          ∷ refuseLight (size 2 1) (radii 0 0) 2 false 6 47
+          ∷ refuseLight (size 0 1) (radii 31 0) 0 false 0 16
+          ∷ refuseLight (size 2 1) (radii 31 0) 2 false 5 48
+          ∷ refuseLight (size 2 1) (radii 0 0) 2 false 5 47
+          ∷ refuseLight (size 2 1) (radii 0 0) 2 false 6 48
           ∷ []);
       want = nats (1 ∷ 2 ∷ 3 ∷ 4 ∷ 1 ∷ 2 ∷ 3 ∷ 0 ∷ []);
     }
@@ -459,11 +465,11 @@ table =
     ∷ record {
       no = 37;
       got = nats
-          (refuseClear (size 0 1) (radii 0 0) (rgb 1 1 1) 0 0 0 16
-          ∷ refuseClear (size 2 1) (radii 31 0) (rgb 1 1 1) 6 2 6 48
-          ∷ refuseClear (size 2 1) (radii 0 0) (rgb 1 1 1) 6 2 6 47
-          ∷ refuseClear (size 0 1) (radii 31 0) (rgb 1 1 1) 0 0 0 16
-          ∷ refuseClear (size 2 1) (radii 31 0) (rgb 1 1 1) 5 2 6 48
+          (refuseClear (size 0 1) (radii 0 0) (rgb 1 1 1) 0 0 0 0 16
+          ∷ refuseClear (size 2 1) (radii 31 0) (rgb 1 1 1) 2 6 2 6 48
+          ∷ refuseClear (size 2 1) (radii 0 0) (rgb 1 1 1) 2 6 2 6 47
+          ∷ refuseClear (size 0 1) (radii 31 0) (rgb 1 1 1) 0 0 0 0 16
+          ∷ refuseClear (size 2 1) (radii 31 0) (rgb 1 1 1) 2 5 2 6 48
           ∷ []);
       want = nats (1 ∷ 2 ∷ 4 ∷ 1 ∷ 2 ∷ []);
     }
@@ -471,25 +477,25 @@ table =
     ∷ record {
       no = 38;
       got = nats
-          (refuseReplace (size 1025 1) (radii 0 0) (rgb 1 1 1) (rect 0 0 1 1) 3 3075 1025 3075 16416
-          ∷ refuseReplace (size 5 4) (radii 31 0) (rgb 1 1 1) (rect 2 1 3 3) 27 60 20 60 240
-          ∷ refuseReplace (size 5 4) (radii 0 0) (rgb 1 1 1) (rect 2 1 3 3) 27 59 20 60 240
-          ∷ refuseReplace (size 5 4) (radii 0 0) (rgb 1 1 1) (rect 2 1 3 3) 27 60 19 60 240
-          ∷ refuseReplace (size 5 4) (radii 0 0) (rgb 1 1 1) (rect 2 1 3 3) 27 60 20 61 240
-          ∷ refuseReplace (size 5 4) (radii 0 0) (rgb 1 1 1) (rect 2 1 3 3) 27 60 20 60 239
-          ∷ refuseReplace (size 5 4) (radii 0 0) (rgb 1 0 1) (rect 2 1 3 3) 27 60 20 60 240
+          (refuseReplace (size 1025 1) (radii 0 0) (rgb 1 1 1) (rect 0 0 1 1) 3 1025 3075 1025 3075 16416
+          ∷ refuseReplace (size 5 4) (radii 31 0) (rgb 1 1 1) (rect 2 1 3 3) 27 20 60 20 60 240
+          ∷ refuseReplace (size 5 4) (radii 0 0) (rgb 1 1 1) (rect 2 1 3 3) 27 20 59 20 60 240
+          ∷ refuseReplace (size 5 4) (radii 0 0) (rgb 1 1 1) (rect 2 1 3 3) 27 20 60 19 60 240
+          ∷ refuseReplace (size 5 4) (radii 0 0) (rgb 1 1 1) (rect 2 1 3 3) 27 20 60 20 61 240
+          ∷ refuseReplace (size 5 4) (radii 0 0) (rgb 1 1 1) (rect 2 1 3 3) 27 20 60 20 60 239
+          ∷ refuseReplace (size 5 4) (radii 0 0) (rgb 1 0 1) (rect 2 1 3 3) 27 20 60 20 60 240
           ∷ []);
       want = nats (1 ∷ 2 ∷ 3 ∷ 4 ∷ 4 ∷ 4 ∷ 5 ∷ []);
     }
     ∷ record {
       no = 38;
       got = nats
-          (refuseReplace (size 1025 1) (radii 31 0) (rgb 1 1 1) (rect 0 0 1 1) 3 3075 1025 3075 16416
-          ∷ refuseReplace (size 5 4) (radii 31 0) (rgb 1 1 1) (rect 2 1 3 3) 27 59 20 60 240
-          ∷ refuseReplace (size 5 4) (radii 0 0) (rgb 1 1 1) (rect 2 1 3 3) 27 59 19 60 240
-          ∷ refuseReplace (size 5 4) (radii 0 0) (rgb 0 1 1) (rect 2 1 3 3) 27 60 20 60 239
-          ∷ refuseReplace (size 5 4) (radii 0 0) (rgb 1 1 0) (rect 2 1 4 3) 36 60 20 60 240
-          ∷ refuseReplace (size 5 4) (radii 0 0) (rgb 1 1 1) (rect 2 1 4 3) 27 60 20 60 240
+          (refuseReplace (size 1025 1) (radii 31 0) (rgb 1 1 1) (rect 0 0 1 1) 3 1025 3075 1025 3075 16416
+          ∷ refuseReplace (size 5 4) (radii 31 0) (rgb 1 1 1) (rect 2 1 3 3) 27 20 59 20 60 240
+          ∷ refuseReplace (size 5 4) (radii 0 0) (rgb 1 1 1) (rect 2 1 3 3) 27 20 59 19 60 240
+          ∷ refuseReplace (size 5 4) (radii 0 0) (rgb 0 1 1) (rect 2 1 3 3) 27 20 60 20 60 239
+          ∷ refuseReplace (size 5 4) (radii 0 0) (rgb 1 1 0) (rect 2 1 4 3) 36 20 60 20 60 240
+          ∷ refuseReplace (size 5 4) (radii 0 0) (rgb 1 1 1) (rect 2 1 4 3) 27 20 60 20 60 240
           ∷ []);
       want = nats (1 ∷ 2 ∷ 3 ∷ 4 ∷ 5 ∷ 6 ∷ []);
     }

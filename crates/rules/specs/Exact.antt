@@ -6,11 +6,11 @@ use mathlib.Core.List.{List, foldr}
 use Rattle.rules.specs.Shape.{Shape}
 use Rattle.rules.specs.declared.Settings.{Settings}
 use Rattle.rules.specs.declared.Rgb.{Rgb}
-use Rattle.rules.specs.Window.{Plane, window}
+use Rattle.rules.specs.Window.{Plane, Shown, alike, window}
 use Rattle.rules.specs.Light.{guide}
 use Rattle.rules.specs.Transmission.{Sample, sample}
 use Rattle.rules.specs.Setup.{Setup, shape}
-use Rattle.rules.specs.Buffers.{pixels, channel, values}
+use Rattle.rules.specs.Buffers.{pixels, shownBy, channel, values}
 use Rattle.rules.specs.Fraction.{Fraction, whole, _+ᶠ_, _-ᶠ_, _*ᶠ_, _/ᶠ_, smaller, heldᶠ, mean, part}
 
 -- ---- equation 14: coarse transmission. A ratio is at most 1, as in document 01
@@ -28,8 +28,8 @@ leastᶠ l = foldr smaller (whole 1) l
 abbrev pub coarseOfᶠ : ℕ → Fraction → Fraction
 coarseOfᶠ omega d = whole 10000 *ᶠ (whole 1 -ᶠ part omega *ᶠ d)
 
-unfoldable pub coarseᶠ : Shape → Settings → Rgb → Plane Rgb → Plane Fraction
-coarseᶠ z k a f y x = coarseOfᶠ (k .omega) (leastᶠ (window z (k .s) (λ v u. leastRatioᶠ a (f v u)) y x))
+unfoldable pub coarseᶠ : Shape → Settings → Rgb → Plane (Shown Rgb) → Plane Fraction
+coarseᶠ z k a f y x = coarseOfᶠ (k .omega) (leastᶠ (window z (k .s) (λ v u. alike (leastRatioᶠ a) (f v u)) y x))
 
 -- ---- the guided filter, over the whole coarse values: I and t of a pixel, mean μ and variance σ² of I in a window
 
@@ -60,15 +60,15 @@ pub record Lineᶠ : Type 0 where
 unfoldable pub lineᶠ : ℕ → List Sample → Lineᶠ
 lineᶠ e l = record { a = slopeᶠ e l; b = offsetᶠ e l }
 
-unfoldable pub fitᶠ : Shape → Settings → Rgb → Plane Rgb → Plane Lineᶠ
-fitᶠ z k a f y x = lineᶠ (k .e) (window z (k .r) (sample z k a f) y x)
+unfoldable pub fitᶠ : Shape → Settings → Rgb → Plane (Shown Rgb) → Plane (Shown Lineᶠ)
+fitᶠ z k a f y x = alike (λ i. lineᶠ (k .e) (window z (k .r) (sample z k a f) y x)) (f y x)
 
--- equation 19: the map entry, before it is held
+-- equation 19: the refined value, before it is held
 unfoldable pub refineᶠ : ℕ → List Lineᶠ → Fraction
 refineᶠ g l = mean (λ i. i .a) l *ᶠ whole g +ᶠ mean (λ i. i .b) l
 
-unfoldable pub refinedᶠ : Shape → Settings → Rgb → Plane Rgb → Plane Fraction
-refinedᶠ z k a f y x = refineᶠ (guide (f y x)) (window z (k .r) (fitᶠ z k a f) y x)
+unfoldable pub refinedᶠ : Shape → Settings → Rgb → Plane (Shown Rgb) → Plane Fraction
+refinedᶠ z k a f y x = refineᶠ (guide (f y x .value)) (window z (k .r) (fitᶠ z k a f) y x)
 
 -- ---- equation 20: byte i under light a at transmission t, which is the larger of map entry and t0; before it is held
 
@@ -80,10 +80,10 @@ recoverᶠ a i t = (whole i -ᶠ whole a) /ᶠ part t +ᶠ whole a
 abbrev pub hazeᶠ : ℕ → ℕ → ℕ → Fraction
 hazeᶠ a j t = whole j *ᶠ part t +ᶠ whole a *ᶠ (whole 1 -ᶠ part t)
 
--- ---- what the buffers stand for: an entry of a frame's map, byte c of a pixel of the picture by frame and map, and of a hazed frame
+-- ---- what the buffers stand for: an entry of a frame's map at a seen pixel, byte c of a pixel of the picture by frame and map, and of a hazed frame
 
 abbrev pub mapᶠ : Setup → List ℕ → Plane Fraction
-mapᶠ p frame y x = heldᶠ 10000 (refinedᶠ (shape p) (p .settings) (p .light) (pixels (shape p) frame) y x)
+mapᶠ p frame y x = heldᶠ 10000 (refinedᶠ (shape p) (p .settings) (p .light) (shownBy p frame) y x)
 
 abbrev pub pictureᶠ : Setup → List ℕ → List ℕ → ℕ → Plane Fraction
 pictureᶠ p frame map c y x =

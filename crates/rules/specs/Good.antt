@@ -1,11 +1,15 @@
 -- What is known of a size, of settings, of a light, of a rectangle and of a call of Light that are not refused. Assumes nothing.
 use mathlib.Core.Path.{_≡_}
+use mathlib.Core.Bool.{false}
+use mathlib.Core.List.{List}
+use lib.ListN.{length}
 use Prim.Native.Nat.{ℕ, _+_, _*_, _≤_, _<_}
 use Rattle.rules.specs.Shape.{Shape, described, room}
 use Rattle.rules.specs.declared.Size.{Size}
 use Rattle.rules.specs.declared.Settings.{Settings}
 use Rattle.rules.specs.declared.Rgb.{Rgb}
 use Rattle.rules.specs.declared.Rect.{Rect}
+use Rattle.rules.specs.Refusals.{badSeen}
 
 pub record GoodSize (z : Shape) : Type 0 where
   pub across : 0 < z .w
@@ -37,9 +41,11 @@ pub record GoodRect (z : Shape) (c : Rect) : Type 0 where
   pub across : c .x + c .w ≤ z .w
   pub down : c .y + c .h ≤ z .h
 
--- frame and work are the lengths of what Light is lent
-pub record AcceptedLight (z : Size) (k : Settings) (frame work : ℕ) : Type 0 where
+-- frame and work are the lengths of what Light is lent beside the mask
+pub record AcceptedLight (z : Size) (k : Settings) (mask : List ℕ) (frame work : ℕ) : Type 0 where
   pub size : GoodSize (described z)
   pub settings : GoodSettings k
+  pub shown : length mask ≡ z .w * z .h
+  pub some : badSeen mask ≡ false
   pub bytes : frame ≡ 3 * (z .w * z .h)
   pub space : room (described z) ≤ work

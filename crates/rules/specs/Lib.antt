@@ -8,10 +8,11 @@ pub mod Picture
 pub mod Setup
 pub mod Buffers
 pub mod Box
-pub mod Good
 pub mod Refusals
+pub mod Good
 pub mod Promise
 pub mod Run
 pub mod Cases
+pub mod CasesMask
 pub mod Fraction
 pub mod Exact

@@ -8,8 +8,8 @@ use Rattle.rules.specs.Shape.{Shape}
 use Rattle.rules.specs.declared.Settings.{Settings}
 use Rattle.rules.specs.declared.Rgb.{Rgb}
 use Rattle.rules.specs.declared.Figure.{Figure}
-use Rattle.rules.specs.Window.{Plane, least, total}
-use Rattle.rules.specs.Transmission.{held, refined}
+use Rattle.rules.specs.Window.{Plane, Shown, least, total}
+use Rattle.rules.specs.Transmission.{held, mapEntry}
 
 -- ---- Clear: byte i under light a at transmission t
 
@@ -28,9 +28,9 @@ recover a i t = held 255 (pos a +ℤ nearest ((pos i -ℤ pos a) *ℤ pos 10000)
 unfoldable pub recover3 : Rgb → Rgb → ℕ → Rgb
 recover3 a i t = record { r = recover (a .r) (i .r) t; g = recover (a .g) (i .g) t; b = recover (a .b) (i .b) t }
 
--- the cleared pixel: T is the larger of map entry and t0
-unfoldable pub cleared : Shape → Settings → Rgb → Plane Rgb → Plane Rgb
-cleared z k a f y x = recover3 a (f y x) (max (refined z k a f y x) (k .t0))
+-- the cleared pixel: T is the larger of map entry and t0. At a hidden pixel T is 10,000, and that is the pixel itself (proofs/Hidden)
+unfoldable pub cleared : Shape → Settings → Rgb → Plane (Shown Rgb) → Plane Rgb
+cleared z k a f y x = recover3 a (f y x .value) (max (mapEntry z k a f y x) (k .t0))
 
 -- ---- Haze: clean byte j under light a at transmission t
 

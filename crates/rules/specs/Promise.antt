@@ -19,8 +19,8 @@ use Rattle.rules.specs.declared.Band.the-variants as band
 use Rattle.rules.specs.Light.{light}
 use Rattle.rules.specs.Picture.{figure}
 use Rattle.rules.specs.Setup.{Setup, shape}
-use Rattle.rules.specs.Buffers.{pixels, hazed, State, clear, replace}
-use Rattle.rules.specs.Refusals.{refuseLight, refuseClear, refuseReplace, refuseHaze, refuseBand}
+use Rattle.rules.specs.Buffers.{masked, hazed, State, clear, replace}
+use Rattle.rules.specs.Refusals.{badSeen, refuseLight, refuseClear, refuseReplace, refuseHaze, refuseBand}
 
 -- ---- the answers: the case for each number of the paper, 0 for an accepted call, with the values that it carries
 
@@ -80,11 +80,25 @@ lent s work = lentOf (s .frame) (s .map) (s .picture) work
 
 -- the refusal number of a call on these buffers
 abbrev pub noClear : Setup → Lent → ℕ
-noClear p l = refuseClear (p .size) (p .settings) (p .light) (length (l .frame)) (length (l .map)) (length (l .picture)) (length (l .work))
+noClear p l =
+    refuseClear (p .size) (p .settings) (p .light) (length (p .mask)) (length (l .frame)) (length (l .map)) (length (l .picture)) (length (l .work))
 
 abbrev pub noReplace : Setup → Rect → List ℕ → Lent → ℕ
 noReplace p c new l =
-    refuseReplace (p .size) (p .settings) (p .light) c (length new) (length (l .frame)) (length (l .map)) (length (l .picture)) (length (l .work))
+    refuseReplace
+    (p .size)
+    (p .settings)
+    (p .light)
+    c
+    (length new)
+    (length (p .mask))
+    (length (l .frame))
+    (length (l .map))
+    (length (l .picture))
+    (length (l .work))
+
+abbrev pub noLight : Size → Settings → List ℕ → List ℕ → List ℤ → ℕ
+noLight z k mask frame work = refuseLight z k (length mask) (badSeen mask) (length frame) (length work)
 
 -- what an accepted call leaves in them
 abbrev pub afterClear : Setup → Lent → Lent
@@ -96,9 +110,9 @@ afterReplace p c new l = lent (replace p c new (state l)) (wiped (shape p) (l .w
 -- ---- the promises
 
 -- Light: work is the work area before, work′ afterwards
-pub record Lights (z : Size) (k : Settings) (frame : List ℕ) (work : List ℤ) (r : Found) (work′ : List ℤ) : Type 0 where
-  pub answer : r ≡ foundOr (refuseLight z k (length frame) (length work)) (light (described z) k (pixels (described z) frame))
-  pub after : work′ ≡ unless (refuseLight z k (length frame) (length work)) (wiped (described z) work) work
+pub record Lights (z : Size) (k : Settings) (mask frame : List ℕ) (work : List ℤ) (r : Found) (work′ : List ℤ) : Type 0 where
+  pub answer : r ≡ foundOr (noLight z k mask frame work) (light (described z) k (masked (described z) mask frame))
+  pub after : work′ ≡ unless (noLight z k mask frame work) (wiped (described z) work) work
 
 -- Clear: l is what stood in the buffers, m what stands there afterwards
 pub record Clears (p : Setup) (l : Lent) (r : Answer) (m : Lent) : Type 0 where

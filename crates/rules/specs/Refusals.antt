@@ -2,7 +2,7 @@
 -- call. A buffer is given by its length. Assumes nothing.
 use Prim.Native.Nat.{ℕ, _+_, _*_}
 use mathlib.Core.List.{List, [], _∷_, foldr}
-use mathlib.Core.Bool.{Bool, false, not, cond, _||_}
+use mathlib.Core.Bool.{Bool, true, false, not, cond, _&&_, _||_}
 use lib.ListN.{length}
 use lib.Dec.{ltb, eqb}
 use Rattle.rules.specs.declared.Size.{Size}
@@ -40,12 +40,15 @@ badSettings k =
 unfoldable pub badFrame : Size → ℕ → Bool
 badFrame z n = off n (3 * (z .w * z .h))
 
--- 4: a map isn't W·H entries, or the work area has fewer than 8·(W+1)·(H+1)
+-- 4: a map isn't W·H entries, a mask isn't W·H bytes, or the work area has fewer than 8·(W+1)·(H+1) entries
 unfoldable pub badMap : Size → ℕ → Bool
 badMap z n = off n (z .w * z .h)
 
 unfoldable pub badWork : Size → ℕ → Bool
 badWork z n = ltb n (room (described z))
+
+unfoldable pub badMask : Size → ℕ → Bool
+badMask z n = off n (z .w * z .h)
 
 -- 5: a light channel is 0
 unfoldable pub badLight : Rgb → Bool
@@ -66,24 +69,34 @@ badNew c n = off n (3 * (c .w * c .h))
 unfoldable pub badEntries : List ℕ → Bool
 badEntries map = foldr (λ t b. ltb 10000 t || b) false map
 
--- ---- for each operation its tests in order
+-- 14: no pixel is seen
+unfoldable pub badSeen : List ℕ → Bool
+badSeen mask = foldr (λ i b. eqb i 0 && b) true mask
 
--- Light checks 1, 2, 3, 4
-abbrev pub testsLight : Size → Settings → ℕ → ℕ → Tests
-testsLight z k frame work = (1, badSize z) ∷ (2, badSettings k) ∷ (3, badFrame z frame) ∷ (4, badWork z work) ∷ []
+-- ---- for each operation its tests in order. `none` says whether no pixel is seen
+
+-- Light checks 1, 2, 3, 4, 14
+abbrev pub testsLight : Size → Settings → ℕ → Bool → ℕ → ℕ → Tests
+testsLight z k mask none frame work =
+    (1, badSize z) ∷ (2, badSettings k) ∷ (3, badFrame z frame) ∷ (4, badMask z mask || badWork z work) ∷ (14, none) ∷ []
 
 -- Clear 1 to 5
-abbrev pub testsClear : Size → Settings → Rgb → ℕ → ℕ → ℕ → ℕ → Tests
-testsClear z k a frame map picture work =
-    (1, badSize z) ∷ (2, badSettings k) ∷ (3, badFrame z frame) ∷ (4, badFrame z picture || badMap z map || badWork z work) ∷ (5, badLight a) ∷ []
-
--- Replace 1 to 7
-abbrev pub testsReplace : Size → Settings → Rgb → Rect → ℕ → ℕ → ℕ → ℕ → ℕ → Tests
-testsReplace z k a c new frame map picture work =
+abbrev pub testsClear : Size → Settings → Rgb → ℕ → ℕ → ℕ → ℕ → ℕ → Tests
+testsClear z k a mask frame map picture work =
     (1, badSize z)
     ∷ (2, badSettings k)
     ∷ (3, badFrame z frame)
-    ∷ (4, badFrame z picture || badMap z map || badWork z work)
+    ∷ (4, badMask z mask || badFrame z picture || badMap z map || badWork z work)
+    ∷ (5, badLight a)
+    ∷ []
+
+-- Replace 1 to 7
+abbrev pub testsReplace : Size → Settings → Rgb → Rect → ℕ → ℕ → ℕ → ℕ → ℕ → ℕ → Tests
+testsReplace z k a c new mask frame map picture work =
+    (1, badSize z)
+    ∷ (2, badSettings k)
+    ∷ (3, badFrame z frame)
+    ∷ (4, badMask z mask || badFrame z picture || badMap z map || badWork z work)
     ∷ (5, badLight a)
     ∷ (6, badRect z c)
     ∷ (7, badNew c new)
@@ -100,14 +113,14 @@ testsBand z map start end = (1, badSize z) ∷ (4, badMap z (length map)) ∷ (6
 
 -- ---- and the number that it is refused with
 
-unfoldable pub refuseLight : Size → Settings → ℕ → ℕ → ℕ
-refuseLight z k frame work = first (testsLight z k frame work)
+unfoldable pub refuseLight : Size → Settings → ℕ → Bool → ℕ → ℕ → ℕ
+refuseLight z k mask none frame work = first (testsLight z k mask none frame work)
 
-unfoldable pub refuseClear : Size → Settings → Rgb → ℕ → ℕ → ℕ → ℕ → ℕ
-refuseClear z k a frame map picture work = first (testsClear z k a frame map picture work)
+unfoldable pub refuseClear : Size → Settings → Rgb → ℕ → ℕ → ℕ → ℕ → ℕ → ℕ
+refuseClear z k a mask frame map picture work = first (testsClear z k a mask frame map picture work)
 
-unfoldable pub refuseReplace : Size → Settings → Rgb → Rect → ℕ → ℕ → ℕ → ℕ → ℕ → ℕ
-refuseReplace z k a c new frame map picture work = first (testsReplace z k a c new frame map picture work)
+unfoldable pub refuseReplace : Size → Settings → Rgb → Rect → ℕ → ℕ → ℕ → ℕ → ℕ → ℕ → ℕ
+refuseReplace z k a c new mask frame map picture work = first (testsReplace z k a c new mask frame map picture work)
 
 unfoldable pub refuseHaze : Size → Rgb → ℕ → List ℕ → ℕ → ℕ
 refuseHaze z a clean map hazed = first (testsHaze z a clean map hazed)

@@ -29,6 +29,7 @@ accepted p s c =
     (p .light)
     (c .rect)
     (length (c .new))
+    (length (p .mask))
     (length (s .frame))
     (length (s .map))
     (length (s .picture))

@@ -1,13 +1,14 @@
--- From light to transmission, step by step. z is the frame's shape, k the settings, a the light, f the frame as a plane of pixels. Assumes nothing.
+-- From light to transmission, step by step. z is the frame's shape, k the settings, a the light, f the frame as a plane of pixels, seen or hidden. Assumes nothing.
 use Prim.Native.Nat.{ℕ, _+_, _-_, _*_, _/_, min}
 use mathlib.Core.List.{List}
+use mathlib.Core.Bool.{cond}
 use lib.ListN.{length}
 use lib.IntN.{ℤ, pos, negsuc, _+ℤ_, _-ℤ_, _*ℤ_}
 use lib.Signed.{shrZ}
 use Rattle.rules.specs.Shape.{Shape}
 use Rattle.rules.specs.declared.Settings.{Settings}
 use Rattle.rules.specs.declared.Rgb.{Rgb}
-use Rattle.rules.specs.Window.{Plane, window, least, total, totalZ}
+use Rattle.rules.specs.Window.{Plane, Shown, alike, window, least, total, totalZ}
 use Rattle.rules.specs.Light.{guide}
 
 -- ---- 1. ratio of a byte i under light a, and the least over the channels
@@ -23,8 +24,8 @@ leastRatio a i = min (ratio (i .r) (a .r)) (min (ratio (i .g) (a .g)) (ratio (i 
 abbrev pub coarseOf : ℕ → ℕ → ℕ
 coarseOf omega d = 10000 - omega * d / 10000
 
-unfoldable pub coarse : Shape → Settings → Rgb → Plane Rgb → Plane ℕ
-coarse z k a f y x = coarseOf (k .omega) (least 10000 (window z (k .s) (λ v u. leastRatio a (f v u)) y x))
+unfoldable pub coarse : Shape → Settings → Rgb → Plane (Shown Rgb) → Plane ℕ
+coarse z k a f y x = coarseOf (k .omega) (least 10000 (window z (k .s) (λ v u. alike (leastRatio a) (f v u)) y x))
 
 -- ---- 3. guide g: R+G+B. What the filter reads of a pixel is guide and coarse value
 
@@ -32,8 +33,8 @@ pub record Sample : Type 0 where
   pub g : ℕ
   pub t : ℕ
 
-unfoldable pub sample : Shape → Settings → Rgb → Plane Rgb → Plane Sample
-sample z k a f y x = record { g = guide (f y x); t = coarse z k a f y x }
+unfoldable pub sample : Shape → Settings → Rgb → Plane (Shown Rgb) → Plane (Shown Sample)
+sample z k a f y x = alike (λ i. record { g = guide i; t = coarse z k a f y x }) (f y x)
 
 -- ---- 4. the four sums over a window, and P and Q of n and the sums
 
@@ -77,10 +78,10 @@ pub record Line : Type 0 where
 unfoldable pub line : ℕ → List Sample → Line
 line e l = record { a = slope e l; b = offset e l }
 
-unfoldable pub fit : Shape → Settings → Rgb → Plane Rgb → Plane Line
-fit z k a f y x = line (k .e) (window z (k .r) (sample z k a f) y x)
+unfoldable pub fit : Shape → Settings → Rgb → Plane (Shown Rgb) → Plane (Shown Line)
+fit z k a f y x = alike (λ i. line (k .e) (window z (k .r) (sample z k a f) y x)) (f y x)
 
--- ---- 6. refined value, from n, the sums of slopes and of offsets, and g at the pixel itself: the map entry
+-- ---- 6. refined value, from n, the sums of slopes and of offsets, and g at the pixel itself
 
 abbrev pub held : ℕ → ℤ → ℕ
 held top (pos n) = min n top
@@ -92,5 +93,9 @@ refineOf n sa sb g = held 10000 (shrZ (sa *ℤ pos g +ℤ sb) (1024 * n))
 unfoldable pub refine : ℕ → List Line → ℕ
 refine g l = refineOf (length l) (totalZ (λ i. i .a) l) (totalZ (λ i. i .b) l) g
 
-unfoldable pub refined : Shape → Settings → Rgb → Plane Rgb → Plane ℕ
-refined z k a f y x = refine (guide (f y x)) (window z (k .r) (fit z k a f) y x)
+unfoldable pub refined : Shape → Settings → Rgb → Plane (Shown Rgb) → Plane ℕ
+refined z k a f y x = refine (guide (f y x .value)) (window z (k .r) (fit z k a f) y x)
+
+-- the map entry: the refined value, and 10,000 at a hidden pixel
+unfoldable pub mapEntry : Shape → Settings → Rgb → Plane (Shown Rgb) → Plane ℕ
+mapEntry z k a f y x = cond (f y x .seen) (refined z k a f y x) 10000

@@ -1,7 +1,8 @@
--- Planes and windows. A plane has a value at each row and column. A window is the list of the values that it covers, in row order,
+-- Planes and windows. A plane has a value at each row and column. A window is the list of the seen values that it covers, in row order,
 -- so its size n is the list's length, and a least value or a sum over it is a fold of that list. Assumes nothing.
 use Prim.Native.Nat.{ℕ, zero, suc, _+_, _-_, min}
 use mathlib.Core.List.{List, [], _∷_, _++_, foldr}
+use mathlib.Core.Bool.{Bool, true, cond}
 use lib.IntN.{ℤ, pos, _+ℤ_}
 use Rattle.rules.specs.Shape.{Shape}
 
@@ -33,9 +34,29 @@ around end q p f = from (low q p) (many end q p) f
 unfoldable pub square : {A : Type 0} → ℕ → ℕ → ℕ → Plane A → Plane (List A)
 square w h q f y x = flat (around h q y (λ v. around w q x (λ u. f v u)))
 
--- the window of radius q about a pixel of the frame
-unfoldable pub window : {A : Type 0} → Shape → ℕ → Plane A → Plane (List A)
-window z q f = square (z .w) (z .h) q f
+-- ---- what a mask hides
+
+-- a value that is seen or hidden
+pub record Shown (A : Type 0) : Type 0 where
+  pub seen : Bool
+  pub value : A
+
+-- another value, seen where this one is
+abbrev pub alike : {A B : Type 0} → (A → B) → Shown A → Shown B
+alike g i = record { seen = i .seen; value = g (i .value) }
+
+-- a plane of which all is seen
+abbrev pub plain : {A : Type 0} → Plane A → Plane (Shown A)
+plain f y x = record { seen = true; value = f y x }
+
+-- the values that are seen, in order
+abbrev pub seenOf : {A : Type 0} → List (Shown A) → List A
+seenOf [] = []
+seenOf (i ∷ l) = cond (i .seen) (i .value ∷ seenOf l) (seenOf l)
+
+-- the window of radius q about a pixel of the frame: hidden values are not in it
+unfoldable pub window : {A : Type 0} → Shape → ℕ → Plane (Shown A) → Plane (List A)
+window z q f y x = seenOf (square (z .w) (z .h) q f y x)
 
 -- folds over a window: the least value, at most top; the sums in ℕ and in ℤ of what g reads off each value
 abbrev pub least : ℕ → List ℕ → ℕ

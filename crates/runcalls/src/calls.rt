@@ -47,20 +47,28 @@ fn rect(args: &[u64; 24]) -> Rect {
     }
 }
 
-fn light(args: &[u64; 24], frame: &[u8], work: &mut [i64]) {
-    say_found(haze::light(size(args), settings(args), frame, work));
+fn light(args: &[u64; 24], mask: &[u8], frame: &[u8], work: &mut [i64]) {
+    say_found(haze::light(size(args), settings(args), mask, frame, work));
 }
 
-fn clear(args: &[u64; 24], frame: &[u8], map: &mut [u16], picture: &mut [u8], work: &mut [i64]) {
+fn clear(
+    args: &[u64; 24],
+    mask: &[u8],
+    frame: &[u8],
+    map: &mut [u16],
+    picture: &mut [u8],
+    work: &mut [i64],
+) {
     let z = size(args);
     let k = settings(args);
     let a = light_given(args);
-    say_answer(haze::clear(z, k, a, frame, map, picture, work));
+    say_answer(haze::clear(z, k, a, mask, frame, map, picture, work));
 }
 
 fn replace(
     args: &[u64; 24],
     new: &[u8],
+    mask: &[u8],
     frame: &mut [u8],
     map: &mut [u16],
     picture: &mut [u8],
@@ -70,7 +78,7 @@ fn replace(
     let k = settings(args);
     let a = light_given(args);
     let c = rect(args);
-    say_answer(haze::replace(z, k, a, c, new, frame, map, picture, work));
+    say_answer(haze::replace(z, k, a, c, new, mask, frame, map, picture, work));
 }
 
 fn haze(args: &[u64; 24], frame: &[u8], map: &[u16], picture: &mut [u8]) {
@@ -85,6 +93,7 @@ fn band(args: &[u64; 24], map: &[u16]) {
 // The call, on the lent parts.
 fn call(
     args: &[u64; 24],
+    mask: &[u8],
     frame: &mut [u8],
     new: &[u8],
     map: &mut [u16],
@@ -93,24 +102,26 @@ fn call(
 ) {
     let command = args[0];
     match command {
-        1 => light(args, frame, work),
-        3 => replace(args, new, frame, map, picture, work),
+        1 => light(args, mask, frame, work),
+        3 => replace(args, new, mask, frame, map, picture, work),
         4 => haze(args, frame, map, picture),
         5 => band(args, map),
-        _ => clear(args, frame, map, picture, work),
+        _ => clear(args, mask, frame, map, picture, work),
     }
 }
 
 // The call, and what the lent parts hold after it.
 fn report(
     args: &[u64; 24],
+    mask: &[u8],
     frame: &mut [u8],
     new: &[u8],
     map: &mut [u16],
     picture: &mut [u8],
     work: &mut [i64],
 ) {
-    call(args, frame, new, map, picture, work);
+    call(args, mask, frame, new, map, picture, work);
+    say_bytes(mask);
     say_bytes(frame);
     say_bytes(new);
     say_entries(map);
@@ -122,12 +133,14 @@ fn report(
 // Lends as much of each buffer as asked for: of map and picture from any entry on, of the others from the first.
 pub(crate) fn lend(
     args: &[u64; 24],
+    mask: &[u8],
     frame: &mut [u8],
     new: &[u8],
     map: &mut [u16],
     picture: &mut [u8],
     work: &mut [i64],
 ) {
+    let s = at_most(args, 23, mask.len());
     let f = at_most(args, 16, frame.len());
     let n = at_most(args, 17, new.len());
     let m = at_most(args, 21, map.len());
@@ -137,6 +150,7 @@ pub(crate) fn lend(
     let q = at_most(args, 20, work.len());
     report(
         args,
+        &mask[..s],
         &mut frame[..f],
         &new[..n],
         &mut map[m..m_end],

@@ -16,21 +16,21 @@ pub(crate) struct Pattern {
 }
 
 // The generator's next state.
-fn next(state: u64) -> u64
+pub(crate) fn next(state: u64) -> u64
     ensures { λ r. ⌜ r < 4294967296 ⌝ }
 {
     (state % 4294967296 * 1664525 + 1013904223) % 4294967296
 }
 
 // x % n, for any n, cut to 16 bits.
-fn rest(x: u64, n: u64) -> u64
+pub(crate) fn rest(x: u64, n: u64) -> u64
     ensures { λ r. ⌜ r < 65536 ⌝ }
 {
     if n == 0 { 0 } else { x % n % 65536 }
 }
 
 // x / n, for any n, cut to 16 bits.
-fn over(x: u64, n: u64) -> u64
+pub(crate) fn over(x: u64, n: u64) -> u64
     ensures { λ r. ⌜ r < 65536 ⌝ }
 {
     if n == 0 { 0 } else { x / n % 65536 }

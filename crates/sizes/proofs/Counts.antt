@@ -2,16 +2,14 @@
 use mathlib.Core.Path.{_≡_}
 use mathlib.Core.Logic.{_⊎_, inl, inr}
 use mathlib.Core.List.{List}
-use Prim.Native.Nat.{ℕ, _+_, _*_, _≤_, _<_}
-use native.Mathlib.Nat.{not-suc-le-zero, mul-pos, mul-le-mul}
+use Prim.Native.Nat.{ℕ, _+_, _≤_, _<_, max}
+use native.Mathlib.Nat.{not-suc-le-zero}
 use native.Mathlib.Omega.{arith}
 use lib.ListN.{length, getD, set, length-set, replicate, length-replicate, getD-replicate}
-use Rattle.rules.specs.Window.{many}
-use Rattle.planes.specs.declared.View.{View}
-use Rattle.planes.specs.View.{InPlane}
+use lib.IntN.{ℤ, natAbs}
 use Rattle.planes.proofs.Stored.{stored}
 use Rattle.pixel.specs.Over.{Over, parts}
-use Rattle.sizes.specs.Sizes.{Table, Sizes, Counted, Countable, Inverted}
+use Rattle.sizes.specs.Sizes.{Table, Count, Counted, Inverted, spanAt}
 
 -- ---- the table
 
@@ -37,13 +35,18 @@ module _ {l : List ℕ} {n : ℕ} (t : Table l) (some : 0 < n) (few : n ≤ 1464
 
 -- ---- a row
 
--- no size yet, and one more
-pub counted-none : (v : View) (r rows : ℕ) (ns : List ℕ) → Counted v r rows 0 ns
-counted-none v r rows ns = record { is = λ i q. absurd (not-suc-le-zero q) }
+-- what is a count is one under another name
+pub count-as : {z s : ℤ} → z ≡ s → Count s → Count z
+count-as e c = rw e c
 
-pub counted-more : {v : View} {r rows i : ℕ} {ns : List ℕ} → Counted v r rows i ns → i < length ns → (n : ℕ) → n ≡ rows * many (v .w) r (v .left + i) → Counted v r rows (i + 1) (set ns i n)
-counted-more {v} {r} {rows} {i} {ns} c room n e =
-    record { is = λ j q. stored (λ (j k : ℕ). k ≡ rows * many (v .w) r (v .left + j)) ns i n 0 room e j (λ ne. c .is j (omega arith)) }
+-- no size yet, and one more
+pub counted-none : (cols : List ℤ) (x d : ℕ) (ns : List ℕ) → Counted cols x d 0 ns
+counted-none cols x d ns = record { is = λ i q. absurd (not-suc-le-zero q) }
+
+pub counted-more : {cols : List ℤ} {x d i : ℕ} {ns : List ℕ} → Counted cols x d i ns → i < length ns → (n : ℕ) → n ≡ max 1 (natAbs (spanAt cols x d i))
+    → Counted cols x d (i + 1) (set ns i n)
+counted-more {cols} {x} {d} {i} {ns} c room n e =
+    record { is = λ j q. stored (λ (j k : ℕ). k ≡ max 1 (natAbs (spanAt cols x d j))) ns i n 0 room e j (λ ne. c .is j (omega arith)) }
 
 -- no reciprocal yet, and one more
 pub inverted-none : (ns inverses : List ℕ) → Inverted 0 ns inverses
@@ -52,21 +55,3 @@ inverted-none ns inverses = record { over = λ i q. absurd (not-suc-le-zero q) }
 pub inverted-more : {ns inverses : List ℕ} {i : ℕ} → Inverted i ns inverses → i < length inverses → (k : ℕ) → Over 1 (getD ns i 0) parts k → Inverted (i + 1) ns (set inverses i k)
 inverted-more {ns} {inverses} {i} c room k o =
     record { over = λ j q. stored (λ (j k : ℕ). Over 1 (getD ns j 0) parts k) inverses i k 0 room o j (λ ne. c .over j (omega arith)) }
-
--- the sizes of squares of 1 to 121 rows are the table's
-pub countable : {v : View} {r rows : ℕ} {ns : List ℕ} → InPlane v → r ≤ 60 → 0 < rows → rows ≤ 121 → v .wide ≤ length ns → Counted v r rows (v .wide) ns → Countable (v .wide) ns
-countable {v} {r} {rows} {ns} p hr some few long c = record {
-  long = long;
-  some = λ i q. rw (c .is i q) (mul-pos some (one i q));
-  few = λ i q. rw (c .is i q) (mul-le-mul few (most i));
-}
-  where
-    one : (i : ℕ) → i < v .wide → 0 < many (v .w) r (v .left + i)
-    one i q = omega (arith, p .fits .columns)
-
-    most : (i : ℕ) → many (v .w) r (v .left + i) ≤ 121
-    most i = omega arith
-
--- sizes and reciprocals together
-pub sizes-all : {v : View} {r rows : ℕ} {ns inverses : List ℕ} → Counted v r rows (v .wide) ns → Inverted (v .wide) ns inverses → Sizes v r rows ns inverses
-sizes-all c o = record { is = c .is; over = o .over }

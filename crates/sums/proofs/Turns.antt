@@ -109,24 +109,18 @@ module _ (cols : List ℤ) (s : Spannable cols) where
   pub differs : (a d : ℕ) → Computes (rd (entry cols (a + d)) -ℤ rd (entry cols a)) (entry cols (a + d) -ℤ entry cols a) (columnMost + columnMost)
   differs a d = difference (entry cols (a + d)) (entry cols a) columnMost columnMost (s .held (a + d)) (s .held a) (omega arith)
 
--- i sums stand in `out`, which has n entries, and acc holds the bits of the sum of the d columns from x + i on
-pub record Running (n : ℕ) (out cols : List ℤ) (x d i acc : ℕ) : Type 0 where
-  pub long : length out ≡ n
+-- acc holds the bits of the sum of the d columns from x + i on
+pub record Holds (cols : List ℤ) (x d i acc : ℕ) : Type 0 where
   pub bits : acc ≡ ofZ w64 (Σ _+ℤ_ (pos 0) (x + i) d (entry cols))
-  pub spans : Spans out cols x d i
 
--- no sum yet
-pub running-none : (out cols : List ℤ) (x d : ℕ) (v : ℤ) → v ≡ rangeSum (entry cols) x (x + d) → Running (length out) out cols x d 0 (ofZ w64 v)
-running-none out cols x d v e =
+-- the first, from x on
+pub holds-first : (cols : List ℤ) (x d : ℕ) (v : ℤ) → v ≡ rangeSum (entry cols) x (x + d) → Holds cols x d 0 (ofZ w64 v)
+holds-first cols x d v e =
     let n : x + d - x ≡ d = omega arith in
     let a : x ≡ x + 0 = omega arith in
-    record {
-      long = refl;
-      bits = ap (ofZ w64) (e ∙ ap₂ (λ (p k : ℕ). Σ _+ℤ_ (pos 0) p k (entry cols)) a n);
-      spans = record { is = λ i q. absurd (not-suc-le-zero q) };
-    }
+    record { bits = ap (ofZ w64) (e ∙ ap₂ (λ (p k : ℕ). Σ _+ℤ_ (pos 0) p k (entry cols)) a n) }
 
-module _ {n : ℕ} {out cols : List ℤ} {x d i acc : ℕ} (s : Spannable cols) (h : d ≤ 121) (r : Running n out cols x d i acc) where
+module _ {cols : List ℤ} {x d i acc : ℕ} (s : Spannable cols) (h : d ≤ 121) (b : Holds cols x d i acc) where
   -- what the sum becomes when it moves on by one column
   abbrev pub moved : ℤ
   moved = toZ w64 acc +ℤ rd (rd (entry cols (x + i + d)) -ℤ rd (entry cols (x + i)))
@@ -136,19 +130,37 @@ module _ {n : ℕ} {out cols : List ℤ} {x d i acc : ℕ} (s : Spannable cols) 
   moves =
       let a = x + i in
       let c = differs cols s a d in
-      rw (r .bits, c .is, sum-slide a d (entry cols))
+      rw (b .bits, c .is, sum-slide a d (entry cols))
       (sum (Σ _+ℤ_ (pos 0) a d (entry cols)) (entry cols (a + d) -ℤ entry cols a) spanMost (columnMost + columnMost) (span-size cols s a d h) (c .size) (omega arith))
 
-  -- one sum more
-  pub running-more : i < n → Running n (set out i (rd moved)) cols x d (i + 1) (ofZ w64 moved)
-  running-more q =
+  -- as the machine reads it back, and as it holds it
+  pub moved-back : rd moved ≡ Σ _+ℤ_ (pos 0) (x + i + 1) d (entry cols)
+  moved-back = back moved (moves .fit) ∙ moves .is
+
+  pub holds-next : Holds cols x d (i + 1) (ofZ w64 moved)
+  holds-next =
       let e : x + i + 1 ≡ x + (i + 1) = omega arith in
-      record {
-        long = simp length-set (r .long);
-        bits = ap (ofZ w64) (moves .is ∙ ap (λ (p : ℕ). Σ _+ℤ_ (pos 0) p d (entry cols)) e);
-        spans = record {
-          is = λ j p. stored
-              (λ (j : ℕ) (z : ℤ). z ≡ Σ _+ℤ_ (pos 0) (x + j + 1) d (entry cols)) out i (rd moved) (pos 0) (omega (arith, r .long))
-              (back moved (moves .fit) ∙ moves .is) j (λ ne. r .spans .is j (omega arith));
-        };
-      }
+      record { bits = ap (ofZ w64) (moves .is ∙ ap (λ (p : ℕ). Σ _+ℤ_ (pos 0) p d (entry cols)) e) }
+
+-- i sums stand in `out`, which has n entries, and the next is at hand
+pub record Running (n : ℕ) (out cols : List ℤ) (x d i acc : ℕ) : Type 0 where
+  pub long : length out ≡ n
+  pub holds : Holds cols x d i acc
+  pub spans : Spans out cols x d i
+
+-- no sum yet
+pub running-none : (out cols : List ℤ) (x d : ℕ) (v : ℤ) → v ≡ rangeSum (entry cols) x (x + d) → Running (length out) out cols x d 0 (ofZ w64 v)
+running-none out cols x d v e = record { long = refl; holds = holds-first cols x d v e; spans = record { is = λ i q. absurd (not-suc-le-zero q) } }
+
+-- one sum more
+pub running-more : {n : ℕ} {out cols : List ℤ} {x d i acc : ℕ} (s : Spannable cols) (h : d ≤ 121) (r : Running n out cols x d i acc) → i < n
+    → Running n (set out i (rd (moved s h (r .holds)))) cols x d (i + 1) (ofZ w64 (moved s h (r .holds)))
+running-more {n} {out} {cols} {x} {d} {i} s h r q = record {
+  long = simp length-set (r .long);
+  holds = holds-next s h (r .holds);
+  spans = record {
+    is = λ j p. stored
+        (λ (j : ℕ) (z : ℤ). z ≡ Σ _+ℤ_ (pos 0) (x + j + 1) d (entry cols)) out i (rd (moved s h (r .holds))) (pos 0) (omega (arith, r .long))
+        (moved-back s h (r .holds)) j (λ ne. r .spans .is j (omega arith));
+  };
+}

@@ -1,16 +1,24 @@
--- What the rules' squares have: the sums of a plane that agrees are theirs, their values bound their sums, and they have from 1 to 14,641 pixels.
--- Assumes nothing.
+-- What the rules' squares have: those of a plane that agrees are equal, and so are their sums; their values bound their sums, and they have from 1 to
+-- 14,641 pixels. Assumes nothing.
 use mathlib.Core.Path.{_≡_, sym, ap, _∙_}
+use mathlib.Core.List.{List}
 use Prim.Native.Nat.{ℕ, _+_, _-_, _*_, _≤_, _<_, min}
 use native.Mathlib.Nat.{mul-le-mul}
 use native.Mathlib.Omega.{arith}
 use lib.ListN.{length}
 use lib.IntN.{ℤ, natAbs}
-use Rattle.rules.specs.Window.{Plane, square, window, totalZ}
-use Rattle.rules.proofs.Local.{window-local}
+use Rattle.rules.specs.Window.{Plane, flat, low, many, square, totalZ}
+use Rattle.rules.proofs.Local.{from-cong}
 use Rattle.rules.proofs.Fold.{total-square, square-length}
 use Rattle.sums.specs.Sum.{rangeSum}
 use Rattle.sums.proofs.Runs.{range-size}
+
+-- planes that agree have equal squares
+pub square-same : {A : Type 0} (w h r : ℕ) (f g : Plane A) (y x : ℕ) → ((v u : ℕ) → v < h → u < w → f v u ≡ g v u) → square w h r f y x ≡ square w h r g y x
+unfolding square
+square-same {A} w h r f g y x same =
+    ap (λ (l : List (List A)). flat l)
+    (from-cong (low r y) (many h r y) _ _ (λ v a b. from-cong (low r x) (many w r x) _ _ (λ u c d. same v u (omega arith) (omega arith))))
 
 -- the sum of rows and columns
 box-size : (f : Plane ℤ) (y0 y1 x0 x1 B : ℕ) → ((y x : ℕ) → y < y1 → x < x1 → natAbs (f y x) ≤ B)
@@ -21,9 +29,8 @@ box-size f y0 y1 x0 x1 B h =
 module _ {A : Type 0} (w h r : ℕ) (f : Plane A) (y x : ℕ) (hy : y < h) (hx : x < w) where
   -- the sum over the square of a plane c that has what g reads off the values
   pub total-read : (g : A → ℤ) (c : Plane ℤ) → ((v u : ℕ) → v < h → u < w → c v u ≡ g (f v u)) → totalZ (λ i. i) (square w h r c y x) ≡ totalZ g (square w h r f y x)
-  unfolding window
   total-read g c is =
-      ap (totalZ (λ i. i)) (window-local (record { w = w; h = h }) r c (λ v u. g (f v u)) y x hy hx (λ v u p. is v u (p .row) (p .column)))
+      ap (totalZ (λ i. i)) (square-same w h r c (λ v u. g (f v u)) y x is)
       ∙ total-square (λ i. i) w h r (λ v u. g (f v u)) y x
       ∙ sym (total-square g w h r f y x)
 

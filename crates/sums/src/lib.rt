@@ -82,7 +82,7 @@ fn advance(cols: &mut [i64], plane: &[i64], v: View, r: usize, y: usize)
 // ---- along the row
 
 // The sum of the columns from place `from` to before place `end`.
-fn first(cols: &[i64], from: usize, end: usize) -> i64
+pub fn first(cols: &[i64], from: usize, end: usize) -> i64
     requires { ⌜ Spannable (now cols) × (from ≤ end) × (end ≤ from + 121) × (end ≤ kept) ⌝ }
     ensures { λ s. ⌜ s ≡ rangeSum (entry (now (cols .entry))) from end ⌝ }
 {

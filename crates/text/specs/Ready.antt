@@ -1,6 +1,7 @@
 -- What stands ready when an accepted frame is cleared. Assumes nothing.
 use mathlib.Core.Path.{_≡_}
 use mathlib.Core.Bool.{false}
+use mathlib.Core.List.{List}
 use Prim.Native.Nat.{ℕ, _+_, _*_, _≤_}
 use Rattle.rules.specs.Shape.{described, room}
 use Rattle.rules.specs.declared.Size.{Size}
@@ -8,11 +9,13 @@ use Rattle.rules.specs.declared.Settings.{Settings}
 use Rattle.rules.specs.Refusals.{badSize, badSettings}
 use Rattle.records.specs.Records.{large}
 use Rattle.records.specs.Judging.{cells}
+use Rattle.text.specs.Text.{ones}
 
--- size and settings are not refused, and the buffers have these lengths: a `light` line has at most 18 bytes, an `out` line at most 22
-pub record Ready (z : Size) (k : Settings) (frame entries picture work out : ℕ) : Type 0 where
+-- size and settings are not refused, the mask hides nothing, and the buffers have these lengths: a `light` line has at most 18 bytes, an `out` line at most 22
+pub record Ready (z : Size) (k : Settings) (mask : List ℕ) (frame entries picture work out : ℕ) : Type 0 where
   pub size-good : badSize z ≡ false
   pub settings-good : badSettings k ≡ false
+  pub mask-is : mask ≡ ones z
   pub frame-is : frame ≡ 3 * cells z
   pub entries-is : entries ≡ cells z
   pub picture-is : picture ≡ 3 * cells z

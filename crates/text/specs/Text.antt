@@ -1,7 +1,7 @@
 -- The program's text: from the bytes of the input to the bytes of the output. Assumes nothing.
 use mathlib.Core.List.{List, [], _∷_, _++_, map}
 use Prim.Native.Nat.{ℕ, _+_, _*_}
-use lib.ListN.{getD, drop}
+use lib.ListN.{getD, drop, replicate}
 use Rattle.rules.specs.Shape.{described}
 use Rattle.rules.specs.declared.Size.{Size}
 use Rattle.rules.specs.declared.Settings.{Settings}
@@ -9,7 +9,7 @@ use Rattle.rules.specs.declared.Rgb.{Rgb}
 use Rattle.rules.specs.Window.{from, flat}
 use Rattle.rules.specs.Light.{light}
 use Rattle.rules.specs.Setup.{handed}
-use Rattle.rules.specs.Buffers.{pixels, clear}
+use Rattle.rules.specs.Buffers.{masked, clear}
 use Rattle.fields.specs.Words.{bytes}
 use Rattle.fields.specs.Fields.{split}
 use Rattle.fields.specs.Written.{row}
@@ -42,10 +42,14 @@ badLine n l = row (bytes "bad") (n ∷ l ∷ [])
 
 -- ---- the light is found, then used
 
+-- the mask that every text means: each pixel is seen
+abbrev pub ones : Size → List ℕ
+ones z = replicate (cells z) 1
+
 unfoldable pub shown : Size → Settings → List ℕ → List ℕ
 shown z k frame =
-    let a = light (described z) k (pixels (described z) frame) in
-    let s = clear (handed z k a) frame in
+    let a = light (described z) k (masked (described z) (ones z) frame) in
+    let s = clear (handed z k a (ones z)) frame in
     lightLine a ++ outs (cells z) (s .map) (s .picture)
 
 -- ---- the whole

@@ -69,18 +69,19 @@ fn put_outs(out: &mut [u8], at: usize, map: &[u16], picture: &[u8]) -> usize
 fn show(
     z: Size,
     k: Settings,
+    mask: &[u8],
     frame: &[u8],
     map: &mut [u16],
     picture: &mut [u8],
     work: &mut [i64],
     out: &mut [u8],
 ) -> usize
-    requires { ⌜ Ready z k (length (now frame)) (length (now map)) (length (now picture)) (length (now work)) (length (now out)) ⌝ }
+    requires { ⌜ Ready z k (now mask) (length (now frame)) (length (now map)) (length (now picture)) (length (now work)) (length (now out)) ⌝ }
     ensures { λ r. ⌜ Wrote (shown z k (now (frame .entry))) (now (out .entry)) 0 (now (out .exit)) r ⌝ }
 {
-    match haze::light(z, k, frame, work) {
+    match haze::light(z, k, mask, frame, work) {
         Found::Light(a) => {
-            haze::clear(z, k, a, frame, map, picture, work);
+            haze::clear(z, k, a, mask, frame, map, picture, work);
             let at = put_light(out, a);
             put_outs(out, at, &map[..], &picture[..])
         }
@@ -88,19 +89,21 @@ fn show(
     }
 }
 
-// The answer to an accepted frame, with memory of its own for the map, the picture and the work area.
+// The answer to an accepted frame, of which all is seen, with memory of its own for the map, the picture and the work area.
 fn clear_frame(z: Size, k: Settings, frame: &[u8], out: &mut [u8]) -> usize
     requires { ⌜ Accepted z k (length (now frame)) (length (now out)) ⌝ }
     ensures { λ r. ⌜ Wrote (shown z k (take (3 * cells z) (now (frame .entry)))) (now (out .entry)) 0 (now (out .exit)) r ⌝ }
 {
     let n = z.w * z.h;
     let m = 3 * n;
+    let mask = [1u8; 576];
     let mut map = [0u16; 576];
     let mut picture = [0u8; 1728];
     let mut work = [0i64; 5000];
     show(
         z,
         k,
+        &mask[..n],
         &frame[..m],
         &mut map[..n],
         &mut picture[..m],

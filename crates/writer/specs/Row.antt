@@ -1,5 +1,7 @@
 -- What a row is worked out from: of each window its size and sums, and of each transmission its scale. Assumes nothing.
 use mathlib.Core.Path.{_≡_}
+use mathlib.Core.Bool.{cond}
+use lib.Dec.{eqb}
 use mathlib.Core.List.{List}
 use Prim.Native.Nat.{ℕ, _-_, _*_, _/_, _%_, _≤_, _<_, max}
 use lib.ListN.{length, getD}
@@ -25,10 +27,14 @@ pub record Windows (n : ℕ) (slopes offsets : List ℤ) (ns inverses : List ℕ
   pub a-le : (i : ℕ) → i < n → natAbs (getD slopes i (pos 0)) ≤ 2560000 * getD ns i 0
   pub b-le : (i : ℕ) → i < n → natAbs (getD offsets i (pos 0)) ≤ 2147483648 * getD ns i 0
 
--- the refined value of the frame's pixel at position q, whose window is the one at q - p
-abbrev pub entryBy : List ℕ → ℕ → List ℤ → List ℤ → List ℕ → ℕ → ℕ
-entryBy frame p slopes offsets ns q =
-    refineOf (getD ns (q - p) 0) (getD slopes (q - p) (pos 0)) (getD offsets (q - p) (pos 0)) (guide (pixelAt frame q))
+-- the map entry of a pixel of refined value t under the mask's byte m
+abbrev pub entryBy : ℕ → ℕ → ℕ
+entryBy m t = cond (eqb m 0) 10000 t
+
+-- that of the frame's pixel at position q, whose window is the one at q - p
+abbrev pub entryFrom : List ℕ → List ℕ → ℕ → List ℤ → List ℤ → List ℕ → ℕ → ℕ
+entryFrom mask frame p slopes offsets ns q =
+    entryBy (getD mask q 0) (refineOf (getD ns (q - p) 0) (getD slopes (q - p) (pos 0)) (getD offsets (q - p) (pos 0)) (guide (pixelAt frame q)))
 
 -- ---- cleared pixels
 

@@ -1,16 +1,16 @@
-// What the pipeline hands over: the map entries of a rectangle, then its cleared pixels from them. Rows are written run by run, each through the part of the
+// What the pipeline hands over: the map entries of a rectangle, then its cleared pixels from them. The entry of a hidden pixel is 10,000. Rows are written run by run, each through the part of the
 // lent buffer that starts at the run's first pixel.
 ghost use mathlib.Core.Path.{_≡_};
 ghost use Prim.Native.Nat.{ℕ, _+_, _*_, _≤_, _<_, max};
 ghost use lib.ListN.{length, getD};
-ghost use Rattle.rules.specs.Window.{Plane};
+ghost use Rattle.rules.specs.Window.{Plane, Shown};
 ghost use Rattle.rules.specs.Transmission.{Line};
 ghost use Rattle.rules.specs.Buffers.{pixels, values, mapWith, frameWith, near};
-ghost use Rattle.planes.specs.View.{InPlane, whole, rectOf};
-ghost use Rattle.planes.specs.Stage.{Lined, Lining};
+ghost use Rattle.planes.specs.View.{InPlane, Framed, whole, rectOf};
+ghost use Rattle.planes.specs.Stage.{Lined, Lining, boxSeen};
 ghost use Rattle.writer.specs.Run.{Run};
-ghost use Rattle.writer.specs.Row.{Windows, entryBy, ScaleOf, Known, Scales, flooredAt, bytesOf, clearedBy, Floored};
-ghost use Rattle.writer.specs.Write.{refinedBy, recoveredBy, Entries};
+ghost use Rattle.writer.specs.Row.{Windows, entryFrom, entryBy, ScaleOf, Known, Scales, flooredAt, bytesOf, clearedBy, Floored};
+ghost use Rattle.writer.specs.Write.{Placed, entryOver, recoveredBy, Entries};
 use pixel::guide_of;
 use pixel::pixel_at;
 use pixel::recovered;
@@ -23,9 +23,18 @@ use sizes::resize;
 use sums::begin;
 use sums::next;
 
-// The refined values of n pixels of the frame from position p on go to the front of the part.
+// A map entry: a refined value, or 10,000 at a pixel that the byte m hides.
+fn entry_by(m: u8, t: u64) -> u16
+    requires { ⌜ t ≤ 10000 ⌝ }
+    ensures { λ r. ⌜ r ≡ entryBy m t ⌝ }
+{
+    if m == 0 { 10000 } else { t as u16 }
+}
+
+// The map entries of n pixels of the frame from position p on go to the front of the part.
 fn refine_row(
     map: &mut [u16],
+    mask: &[u8],
     frame: &[u8],
     p: usize,
     n: usize,
@@ -34,18 +43,19 @@ fn refine_row(
     ns: &[u64],
     inverses: &[u64],
 )
-    requires { ⌜ (n ≤ length (now map)) × (3 * (p + n) ≤ length (now frame)) × Windows n (now slopes) (now offsets) (now ns) (now inverses) ⌝ }
-    ensures { λ _. ⌜ Run (entryBy (now (frame .entry)) p (now (slopes .entry)) (now (offsets .entry)) (now (ns .entry))) p n (now (map .entry)) (now (map .exit)) ⌝ }
+    requires { ⌜ (n ≤ length (now map)) × (p + n ≤ length (now mask)) × (3 * (p + n) ≤ length (now frame)) × Windows n (now slopes) (now offsets) (now ns) (now inverses) ⌝ }
+    ensures { λ _. ⌜ Run (entryFrom (now (mask .entry)) (now (frame .entry)) p (now (slopes .entry)) (now (offsets .entry)) (now (ns .entry))) p n (now (map .entry)) (now (map .exit)) ⌝ }
 {
     let mut i = 0;
     while i < n {
-        map[i] = refined(
+        let t = refined(
             ns[i],
             inverses[i],
             slopes[i],
             offsets[i],
             guide_of(pixel_at(frame, p + i)),
-        ) as u16;
+        );
+        map[i] = entry_by(mask[p + i], t);
         i += 1;
     }
 }
@@ -104,20 +114,23 @@ fn recover_row(picture: &mut [u8], frame: &[u8], p: usize, n: usize, a: Rgb, sca
     }
 }
 
-// The map entries of the view `to` of the frame, from the lines at `lines`, of which `v` is the view with the same pixels.
+// The map entries of the view `to` of the frame, from the lines at `lines`, which are those of the box b of the frame, and of which `v` is the view with the same
+// pixels.
 pub fn write_map(
     map: &mut [u16],
+    mask: &[u8],
     frame: &[u8],
     to: View,
     work: &[i64],
     lines: usize,
+    b: View,
     v: View,
     r: usize,
 )
-    requires { ⌜ InPlane to × InPlane v × (v .wide ≡ to .wide) × (v .tall ≡ to .tall) × (r ≤ 60) ⌝ }
-    requires { ⌜ (length (now map) ≡ to .w * to .h) × (length (now frame) ≡ 3 * (to .w * to .h)) × Lining (now work) lines (v .w) (v .h) ⌝ }
-    ensures map { λ _. ⌜ ((F : Plane Line) → Lined (now (work .entry)) lines (v .w) (v .h) F
-        → now (map .exit) ≡ mapWith (whole to) (near 0 (rectOf to)) (refinedBy to v r (pixels (whole to) (now (frame .entry))) F) (now (map .entry))) ⌝ }
+    requires { ⌜ InPlane to × InPlane v × (v .wide ≡ to .wide) × (v .tall ≡ to .tall) × (r ≤ 60) × Framed b v (now mask) × Placed to b v ⌝ }
+    requires { ⌜ (length (now map) ≡ to .w * to .h) × (length (now frame) ≡ 3 * (to .w * to .h)) × Lining (now work) lines (v .w) (v .h) (boxSeen b (now mask)) ⌝ }
+    ensures map { λ _. ⌜ ((F : Plane (Shown Line)) → Lined (now (work .entry)) lines (v .w) (v .h) (boxSeen b (now (mask .entry))) F
+        → now (map .exit) ≡ mapWith (whole to) (near 0 (rectOf to)) (entryOver to v r (pixels (whole to) (now (frame .entry))) F) (now (map .entry))) ⌝ }
     ensures held { λ _. ⌜ Entries to (now (map .exit)) ⌝ }
 {
     let mut slopes = [0i64; 1152];
@@ -127,13 +140,24 @@ pub fn write_map(
     let mut ns = [0u64; 1024];
     let mut over = [0u64; 1024];
     let mut table = [0u64; 14642];
+    let mut counts = [0i64; 1152];
     let second = lines + v.w * v.h;
+    sizes::begin(&mut counts[..], mask, b, v, r);
     begin(&mut slopes[..], &work[lines..], v, r);
     begin(&mut offsets[..], &work[second..], v, r);
-    let mut known = 0;
     let mut y = 0;
     while y < v.tall {
-        known = resize(v, r, y, known, &mut table[..], &mut ns[..], &mut over[..]);
+        resize(
+            mask,
+            b,
+            v,
+            r,
+            y,
+            &mut counts[..],
+            &mut table[..],
+            &mut ns[..],
+            &mut over[..],
+        );
         next(
             &mut slopes[..],
             &mut offsets[..],
@@ -148,6 +172,7 @@ pub fn write_map(
         let p = row_start(to, y);
         refine_row(
             &mut map[p..],
+            mask,
             frame,
             p,
             v.wide,

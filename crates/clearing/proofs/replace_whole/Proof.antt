@@ -3,9 +3,9 @@ use mathlib.Core.Path.{_∙_, ap}
 use mathlib.Core.List.{List}
 use Prim.Native.Nat.{ℕ, _+_, _*_}
 use Rattle.rules.specs.Shape.{described}
-use Rattle.rules.specs.Transmission.{refined}
+use Rattle.rules.specs.Transmission.{mapEntry}
 use Rattle.rules.specs.Picture.{cleared}
-use Rattle.rules.specs.Buffers.{pixels, values, entries, bytes, patch, near, replace, reach}
+use Rattle.rules.specs.Buffers.{pixels, masked, values, entries, bytes, patch, near, replace, reach}
 use Rattle.clearing.proofs.Grown.{grown-by, nested-grown, grown-entries, grown-bytes, given-after}
 use native.Mathlib.Omega.{arith}
 use borrow.Author.Needs.{needs}
@@ -34,12 +34,12 @@ grow-requires-2 : tie.Need-grow-requires-2
 grow-requires-2 c κs = search needs
 
 grow-requires-3 : tie.Need-grow-requires-3
-grow-requires-3 c κs = c .before .before .before .before .before .before .before .before .before .before .before .before .before .pre .1 .1 .0
+grow-requires-3 c κs = c .before .before .before .before .before .before .before .before .before .before .before .before .before .before .pre .1 .1 .0
 
 refresh-requires : tie.Need-refresh-requires
 refresh-requires c κs =
     let g = c .before .before .before .before in
-    let s = g .before .before .before .before .before .before .before .before .before .before .before .before .before .before in
+    let s = g .before .before .before .before .before .before .before .before .before .before .before .before .before .before .before in
     let d = s .args in
     let z = described (d .z) in
     let q = reach (d .k) in
@@ -50,7 +50,7 @@ refresh-requires c κs =
     let o = g .grow3 in
     let paste = g .before .before .before .before .before .before .before .before .paste in (
       (
-        given-after z (d .k) (d .a) (d .frame .now) (paste .last .0) (paste .kept .0) (s .pre .0),
+        given-after z (d .k) (d .a) (d .mask .now) (d .frame .now) (paste .last .0) (paste .kept .0) (s .pre .0),
         nested-grown z (d .c) i (d .k) (f .result) (p .result) (o .result) (grown-by z (d .c) (f .result) (2 * q) (f .ensures) (omega arith))
             (grown-by z (d .c) (p .result) (q + d .k .r) (p .ensures) (omega arith)) (grown-by z (d .c) (o .result) q (o .ensures) (omega arith)),
       ),
@@ -75,7 +75,7 @@ returns c =
     let t = c .before .before .before .before .before in
     let r = t .refresh in
     let g = t .before .before .before .before .before in
-    let s = g .before .before .before .before .before .before .before .before .before .before .before .before .before .before in
+    let s = g .before .before .before .before .before .before .before .before .before .before .before .before .before .before .before in
     let d = s .args in
     let z = described (d .z) in
     let q = reach (d .k) in
@@ -86,11 +86,11 @@ returns c =
     let m =
     r .ensures .0
     ∙ grown-entries z (d .c) i q (o .result) rect _ (values z (d .map .now))
-    ∙ ap (λ (l : List ℕ). entries z (patch (near q (d .c)) (refined z (d .k) (d .a) (pixels z l)) (values z (d .map .now)))) frame in
+    ∙ ap (λ (l : List ℕ). entries z (patch (near q (d .c)) (mapEntry z (d .k) (d .a) (masked z (d .mask .now) l)) (values z (d .map .now)))) frame in
     let p =
     r .ensures .1 .0
     ∙ grown-bytes z (d .c) i q (o .result) rect _ (pixels z (d .picture .now))
-    ∙ ap (λ (l : List ℕ). bytes z (patch (near q (d .c)) (cleared z (d .k) (d .a) (pixels z l)) (pixels z (d .picture .now)))) frame in
+    ∙ ap (λ (l : List ℕ). bytes z (patch (near q (d .c)) (cleared z (d .k) (d .a) (masked z (d .mask .now) l)) (pixels z (d .picture .now)))) frame in
     let w = r .ensures .1 .1 in
     λ i. record { frame = frame i; map = m i; picture = p i; work = w i }
 

@@ -5,8 +5,8 @@ use native.Mathlib.Omega.{arith}
 use lib.ListN.{getD}
 use borrow.Author.Needs.{needs}
 use Rattle.rules.specs.declared.Rgb.{Rgb}
-use Rattle.rules.specs.Buffers.{pixelAt}
-use Rattle.planes.specs.Stage.{shown}
+use Rattle.rules.specs.Window.{Shown}
+use Rattle.planes.specs.Stage.{maskedAt, boxPixels}
 use Rattle.planes.proofs.Shown.{shown-at, box-area, row-end}
 use Rattle.coarse.specs.Rows.{sampleOf}
 use Rattle.coarse.proofs.Rows.{puts-as}
@@ -16,13 +16,13 @@ use Rattle.coarse.proofs.give_row.Tie as tie
 
 returns : tie.Need-returns
 returns c l S was given =
-    let d = c .before .before .before .args in
+    let d = c .before .before .before .before .args in
     let e : d .i + 1 - d .s ≡ d .i - d .s = omega (arith, c .if1 .taken) in
     rw e was
 
 -- where the call began, seen from where a row is to be written
 abbrev start-of : tie.After-struct-known → tie.Start
-start-of c = c .before .before .before .before
+start-of c = c .before .before .before .before .before
 
 -- the row lies in both planes
 row : (c : tie.After-struct-known) → let d = start-of c .args in
@@ -52,7 +52,7 @@ sample-row-requires c κs =
     let b = c .before .before .before in
     let s = start-of b in
     let h = s .pre .0 in
-    (omega (arith, row b .0), omega (arith, row b .0, h .3), omega (arith, c .row-start .ensures .1, h .2), h .4, s .pre .1 .0, s .pre .1 .1 (omega (arith, b .before .if1 .left)))
+    (omega (arith, row b .0), omega (arith, row b .0, h .4), omega (arith, c .row-start .ensures .1, h .2), omega (arith, c .row-start .ensures .1, h .3), h .5, s .pre .1 .0, s .pre .1 .1 (omega (arith, b .before .if1 .left)))
 
 same-length : tie.Need-same-length
 same-length c = search needs
@@ -67,13 +67,13 @@ returns-2 c l S was given =
     let y = d .i - d .s in
     let le : d .s ≤ d .i = omega (arith, b .before .if1 .left) in
     let e : d .i + 1 - d .s ≡ y + 1 = omega arith in
-    let place : (x : ℕ) → pixelAt (d .frame .now) (r .row-start .result + x) ≡ shown (d .v) (d .frame .now) y x =
-    λ x. ap (λ (n : ℕ). pixelAt (d .frame .now) (n + x)) (r .row-start .ensures .0) ∙ shown-at (d .v) (d .frame .now) y x
+    let place : (x : ℕ) → maskedAt (d .mask .now) (d .frame .now) (r .row-start .result + x) ≡ boxPixels (d .v) (d .mask .now) (d .frame .now) y x =
+    λ x. ap (λ (n : ℕ). maskedAt (d .mask .now) (d .frame .now) (n + x)) (r .row-start .ensures .0) ∙ shown-at (d .v) (d .mask .now) (d .frame .now) y x
     in
     rw e
     (sampled-more (d .v .wide) (d .v .tall) S l (d .work .now) (o .sample-row .last .0) y (omega (arith, s .pre .0 .1)) was
     (puts-as _ _ _ _ _ (S y) (d .v .wide)
-    (λ x h. given le x h ∙ ap (λ (i : Rgb). sampleOf (d .omega) i (getD (d .d .now) x 0)) (sym (place x)))
+    (λ x h. given le x h ∙ ap (λ (i : Shown Rgb). sampleOf (d .omega) i (getD (d .d .now) x 0)) (sym (place x)))
     (o .sample-row .ensures)))
 
 pub give-row-spec : {M : Type 1} → statement M

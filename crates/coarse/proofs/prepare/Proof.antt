@@ -7,7 +7,7 @@ use native.Mathlib.Omega.{arith}
 use lib.ListN.{length}
 use Rattle.rules.specs.Transmission.{sample}
 use Rattle.planes.specs.View.{boxOf}
-use Rattle.planes.specs.Stage.{shown}
+use Rattle.planes.specs.Stage.{boxPixels}
 use Rattle.planes.proofs.Shown.{given-in}
 use Rattle.windows.specs.Span.{windowed}
 use Rattle.columns.specs.Down.{RowIs}
@@ -18,15 +18,15 @@ use Rattle.coarse.proofs.prepare.Statement.{statement}
 use Rattle.coarse.proofs.prepare.Tie as tie
 
 abbrev Inv-loop : tie.InvT-loop
-Inv-loop work₀ frame v k a row₀ p₀ q₀ store₀ ahead₀ out₀ by w h s i₀ work row p q store ahead out i = Going v k a frame work₀ work row p q store ahead out i
+Inv-loop work₀ mask frame v k a row₀ p₀ q₀ store₀ ahead₀ out₀ by w h s i₀ work row p q store ahead out i = Going v k a mask frame work₀ work row p q store ahead out i
 
 abbrev μ-loop : tie.MeasureT-loop
-μ-loop work₀ frame v k a row₀ p₀ q₀ store₀ ahead₀ out₀ by w h s i₀ work row p q store ahead out i = v .tall + k .s - i
+μ-loop work₀ mask frame v k a row₀ p₀ q₀ store₀ ahead₀ out₀ by w h s i₀ work row p q store ahead out i = v .tall + k .s - i
 
 -- ---- where the call and the turn began, seen from a row's two calls
 
 abbrev start-of : tie.In-loop Inv-loop μ-loop → tie.Start Inv-loop μ-loop
-start-of c = c .before .before .before .before
+start-of c = c .before .before .before .before .before
 
 abbrev turn-of : tie.After-take-row Inv-loop μ-loop → tie.In-loop Inv-loop μ-loop
 turn-of c = c .before .before .before .before
@@ -35,11 +35,11 @@ abbrev row-of : tie.After-down Inv-loop μ-loop → tie.After-take-row Inv-loop 
 row-of c = c .before .before .before .before .before .before .before .before
 
 scales-of-requires : tie.Need-scales-of-requires Inv-loop μ-loop
-scales-of-requires c κs = c .before .pre .0 .light
+scales-of-requires c κs = c .before .before .pre .0 .light
 
 loop-holds : tie.Need-loop-holds Inv-loop μ-loop
 loop-holds c =
-    let d = c .before .before .args in
+    let d = c .before .before .before .args in
     record {
       most = omega arith;
       long = refl;
@@ -50,12 +50,12 @@ loop-holds c =
       ahead-long = refl;
       out-long = refl;
       columns = columns-start _ _ _ _ _ _;
-      samples = samples-start (d .v) (d .k) (d .a) (d .frame .now) (d .work .now);
+      samples = samples-start (d .v) (d .k) (d .a) (d .mask .now) (d .frame .now) (d .work .now);
     }
 
 add-loop : tie.Need-add-loop Inv-loop μ-loop
 add-loop c =
-    let g = c .before .before .before .pre .0 in
+    let g = c .before .before .before .before .pre .0 in
     omega (arith, g .settings .s-most, g .size .tall, g .fits .rows)
 
 slice-aggregate-take-row : tie.Need-slice-aggregate-take-row Inv-loop μ-loop
@@ -72,11 +72,11 @@ take-row-requires c κs =
     let t = c .before .before .before in
     let i = t .before .loop .inv in
     let g = start-of t .pre .0 in
-    ((given-in g, omega (arith, g .settings), g .bytes, g .light, t .before .before .scales-of .ensures), (i .row-long, i .p-long, i .q-long))
+    ((given-in g, omega (arith, g .settings), g .shown, g .bytes, g .light, t .before .before .scales-of .ensures), (i .row-long, i .p-long, i .q-long))
 
 -- the row is as long as it was
-row-long : (c : tie.After-take-row Inv-loop μ-loop) → length (c .take-row .last .1 .1 .1 .1 .1 .1 .0) ≡ 1024
-row-long c = c .take-row .kept .1 .1 .1 .1 .1 .1 .0 ∙ turn-of c .before .loop .inv .row-long
+row-long : (c : tie.After-take-row Inv-loop μ-loop) → length (c .take-row .last .1 .1 .1 .1 .1 .1 .1 .0) ≡ 1024
+row-long c = c .take-row .kept .1 .1 .1 .1 .1 .1 .1 .0 ∙ turn-of c .before .loop .inv .row-long
 
 slice-aggregate-down : tie.Need-slice-aggregate-down Inv-loop μ-loop
 slice-aggregate-down c = sym (row-long (c .before .before .before .before))
@@ -106,7 +106,7 @@ down-requires c κs =
 
 -- the minima that come out
 mins : (c : tie.After-down Inv-loop μ-loop) → let t = turn-of (row-of c) in let d = start-of t .args in let i = t .before .loop .i in d .k .s ≤ i
-    → RowIs (c .down .last .1 .1 .1 .1 .1 .1 .1 .0) (λ r x. windowed min (λ u. leastAlong (d .v) (d .a) (d .k .s) (d .frame .now) u x) (d .k .s) (d .v .tall) r) (i - d .k .s) (d .v .wide)
+    → RowIs (c .down .last .1 .1 .1 .1 .1 .1 .1 .0) (λ r x. windowed min (λ u. leastAlong (d .v) (d .a) (d .k .s) (d .mask .now) (d .frame .now) u x) (d .k .s) (d .v .tall) r) (i - d .k .s) (d .v .wide)
 mins c le = c .down .ensures .1 .0 _ (turn-of (row-of c) .before .loop .inv .columns) (row-of c .take-row .ensures) le
 
 -- come out for a row of the box
@@ -126,10 +126,10 @@ give-row-requires c κs =
     let s = start-of t in
     let d = s .args in
     let g = s .pre .0 in (
-      (given-in g, omega (arith, t .loop-test .taken), g .bytes, omega (arith, s .pre .1, t .before .loop .inv .long), omega (arith, g .settings)),
+      (given-in g, omega (arith, t .loop-test .taken), g .shown, g .bytes, omega (arith, s .pre .1, t .before .loop .inv .long), omega (arith, g .settings)),
       (
         omega (arith, out-long o, g .size .wide, g .fits .columns),
-        λ le. ratio-le (d .v) (d .k) (d .a) (d .frame .now) (o .down .last .1 .1 .1 .1 .1 .1 .1 .0) (t .before .loop .i - d .k .s) (low o le) (mins o le),
+        λ le. ratio-le (d .v) (d .k) (d .a) (d .mask .now) (d .frame .now) (o .down .last .1 .1 .1 .1 .1 .1 .1 .0) (t .before .loop .i - d .k .s) (low o le) (mins o le),
       ),
     )
 
@@ -159,15 +159,15 @@ loop-again c =
       most = omega (arith, t .loop-test .taken);
       long = c .before .give-row .kept .0 ∙ i .long;
       row-long = row-long r;
-      p-long = r .take-row .kept .1 .1 .1 .1 .1 .1 .1 .0 ∙ i .p-long;
-      q-long = r .take-row .kept .1 .1 .1 .1 .1 .1 .1 .1 .0 ∙ i .q-long;
+      p-long = r .take-row .kept .1 .1 .1 .1 .1 .1 .1 .1 .0 ∙ i .p-long;
+      q-long = r .take-row .kept .1 .1 .1 .1 .1 .1 .1 .1 .1 .0 ∙ i .q-long;
       store-long = o .down .kept .1 .1 .1 .1 .1 .0 ∙ i .store-long;
       ahead-long = o .down .kept .1 .1 .1 .1 .1 .1 .0 ∙ i .ahead-long;
       out-long = out-long o;
       columns = o .down .ensures .0 _ (i .columns) (r .take-row .ensures);
       samples =
-          c .before .give-row .ensures (d .work .now) (sample (boxOf (d .v)) (d .k) (d .a) (shown (d .v) (d .frame .now))) (i .samples)
-          (λ le. sample-by (d .v) (d .k) (d .a) (d .frame .now) out (n - d .k .s) (low o le) (mins o le));
+          c .before .give-row .ensures (d .work .now) (sample (boxOf (d .v)) (d .k) (d .a) (boxPixels (d .v) (d .mask .now) (d .frame .now))) (i .samples)
+          (λ le. sample-by (d .v) (d .k) (d .a) (d .mask .now) (d .frame .now) out (n - d .k .s) (low o le) (mins o le));
     }
 
 same-length : tie.Need-same-length Inv-loop μ-loop
@@ -177,11 +177,11 @@ returns : tie.Need-returns Inv-loop μ-loop
 returns c =
     let l = c .before .loop in
     let u = c .before .before .before in
-    let s = u .before in
+    let s = u .before .before in
     let d = s .args in
     let e : l .i - d .k .s ≡ d .v .tall = omega (arith, l .inv .most, c .loop-test .left) in (
-      samples-end (d .v) (d .k) (d .a) (d .frame .now) (d .work .now) (l .work) (l .i - d .k .s) e
-          (λ i. omega (arith, u .shared-slice-known .given i)) (omega (arith, s .pre .1, l .inv .long)) (l .inv .samples),
+      samples-end (d .v) (d .k) (d .a) (d .mask .now) (d .frame .now) (d .work .now) (l .work) (l .i - d .k .s) e
+          (λ i. omega (arith, u .shared-slice-known2 .given i)) (omega (arith, s .pre .1, l .inv .long)) (l .inv .samples),
       l .inv .samples .rest,
     )
 

@@ -11,18 +11,18 @@ returns c = λ h. absurd (omega (arith, c .if1 .taken))
 row-start-requires : tie.Need-row-start-requires
 row-start-requires c κs =
     let e = c .before in
-    (e .before .before .before .before .before .before .pre .0 .0, omega (arith, e .if1 .left))
+    (e .before .before .before .before .before .before .before .pre .0 .0, omega (arith, e .if1 .left))
 
 ratio-row-requires : tie.Need-ratio-row-requires
 ratio-row-requires c κs =
-    let s = c .before .before .before .before .before .before .before .before in
+    let s = c .before .before .before .before .before .before .before .before .before in
     let h = s .pre .0 in
-    (omega (arith, h .0 .short, h .0 .fits .columns, s .pre .1 .0), omega (arith, c .row-start .ensures .1, h .2), h .3, h .4)
+    (omega (arith, h .0 .short, h .0 .fits .columns, s .pre .1 .0), omega (arith, c .row-start .ensures .1, h .2), omega (arith, c .row-start .ensures .1, h .3), h .4, h .5)
 
 shrink-requires : tie.Need-shrink-requires
 shrink-requires c κs =
     let r = c .before .before .before .before .before in
-    let s = r .before .before .before .before .before .before .before .before .before in
+    let s = r .before .before .before .before .before .before .before .before .before .before in
     let h = s .pre .0 in
     let n = h .0 .fits .columns in (
       h .1,
@@ -46,8 +46,8 @@ returns-2 : tie.Need-returns-2
 returns-2 c h =
     let k = c .before .before .before .before .before .before .shrink in
     let r = c .before .before .before .before .before .before .before .before .before .before .before .before in
-    let d = r .before .before .before .before .before .before .before .before .before .args in
-    along-is (d .v) (d .a) (d .s) (d .frame .now) (d .i) (r .before .row-start .result) (r .ratio-row .last .0) (k .last .0)
+    let d = r .before .before .before .before .before .before .before .before .before .before .args in
+    along-is (d .v) (d .a) (d .s) (d .mask .now) (d .frame .now) (d .i) (r .before .row-start .result) (r .ratio-row .last .0) (k .last .0)
     (r .before .row-start .ensures .0) (r .ratio-row .ensures) (k .ensures .0)
 
 pub take-row-spec : {M : Type 1} → statement M

@@ -12,7 +12,7 @@ use Rattle.haze.proofs.clear.Tie as tie
 
 -- the setup, what stood in the buffers, and the call's refusal number
 abbrev setup : tie.Start → Setup
-setup s = handed (s .args .z) (s .args .k) (s .args .a)
+setup s = handed (s .args .z) (s .args .k) (s .args .a) (s .args .mask .now)
 
 abbrev old : tie.Start → Lent
 old s = lentOf (s .args .frame .now) (s .args .map .now) (s .args .picture .now) (s .args .work .now)
@@ -21,7 +21,7 @@ abbrev number : tie.Start → ℕ
 number s = noClear (setup s) (old s)
 
 -- an accepted call's number is 0
-zero : (i : tie.Else1) → number (i .before .before .before .before .before) ≡ 0
+zero : (i : tie.Else1) → number (i .before .before .before .before .before .before) ≡ 0
 zero i = sym (i .before .refuse-clear .ensures) ∙ i .if1 .left
 
 refuse-clear-requires : tie.Need-refuse-clear-requires
@@ -29,7 +29,7 @@ refuse-clear-requires c κs = search needs
 
 returns : tie.Need-returns
 returns c =
-    let s = c .before .before .before .before .before in
+    let s = c .before .before .before .before .before .before in
     let j = c .before .refuse-clear in
     let h = c .if1 .taken in
     record {
@@ -40,7 +40,7 @@ returns c =
 clear-whole-requires : tie.Need-clear-whole-requires
 clear-whole-requires c κs =
     let i = c .before .before .before in
-    let s = i .before .before .before .before .before in
+    let s = i .before .before .before .before .before .before in
     let n = clear-accepted (setup s) (old s) (zero i) in
     (given (setup s) (old s) n, loan (setup s) (old s) n)
 
@@ -57,7 +57,7 @@ returns-2 : tie.Need-returns-2
 returns-2 c =
     let w = c .before .before .before .before .before in
     let i = w .before .before .before .before in
-    let s = i .before .before .before .before .before in
+    let s = i .before .before .before .before .before .before in
     let e = zero i in
     record { answer = done (number s) e; after = w .clear-whole .ensures ∙ made (number s) (afterClear (setup s) (old s)) (old s) e }
 

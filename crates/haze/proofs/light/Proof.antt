@@ -1,9 +1,8 @@
 -- `haze::light` meets its contract: the number of the refusal, or the light that is found. Assumes nothing.
 use mathlib.Core.Path.{_≡_, sym, ap, _∙_}
-use lib.ListN.{length}
 use borrow.Author.Needs.{needs}
 use Rattle.rules.specs.declared.Found.the-variants.{Light, Refused}
-use Rattle.rules.specs.Refusals.{refuseLight}
+use Rattle.rules.specs.Promise.{noLight}
 use Rattle.rules.proofs.Answers.{or-refused, or-done, kept, made}
 use Rattle.refusals.proofs.Accepted.{light-accepted}
 use Rattle.haze.proofs.light.Statement.{statement}
@@ -18,11 +17,13 @@ returns c =
     record { answer = or-refused Light Refused _ _ _ e (c .if1 .taken); after = kept _ _ _ _ e (c .if1 .taken) }
 
 -- the judge has given no number
-free : (c : tie.Else1) → let a = c .before .before .before .args in refuseLight (a .z) (a .k) (length (a .frame .now)) (length (a .work .now)) ≡ 0
+free : (c : tie.Else1) → let a = c .before .before .before .before .args in noLight (a .z) (a .k) (a .mask .now) (a .frame .now) (a .work .now) ≡ 0
 free c = sym (c .before .refuse-light .ensures) ∙ c .if1 .left
 
 find-requires : tie.Need-find-requires
-find-requires c κs = light-accepted _ _ _ _ (free (c .before))
+find-requires c κs =
+    let a = c .before .before .before .before .before .args in
+    light-accepted (a .z) (a .k) (a .mask .now) (a .frame .now) (a .work .now) (free (c .before))
 
 same-length : tie.Need-same-length
 same-length c = search needs

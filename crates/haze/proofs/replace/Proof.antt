@@ -12,7 +12,7 @@ use Rattle.haze.proofs.replace.Tie as tie
 
 -- the setup, what stood in the buffers, the call's refusal number, and what an accepted call leaves
 abbrev setup : tie.Start → Setup
-setup s = handed (s .args .z) (s .args .k) (s .args .a)
+setup s = handed (s .args .z) (s .args .k) (s .args .a) (s .args .mask .now)
 
 abbrev old : tie.Start → Lent
 old s = lentOf (s .args .frame .now) (s .args .map .now) (s .args .picture .now) (s .args .work .now)
@@ -24,7 +24,7 @@ abbrev new : tie.Start → Lent
 new s = afterReplace (setup s) (s .args .c) (s .args .new .now) (old s)
 
 -- an accepted call's number is 0
-zero : (i : tie.Else1) → number (i .before .before .before .before .before .before) ≡ 0
+zero : (i : tie.Else1) → number (i .before .before .before .before .before .before .before) ≡ 0
 zero i = sym (i .before .refuse-replace .ensures) ∙ i .if1 .left
 
 refuse-replace-requires : tie.Need-refuse-replace-requires
@@ -32,7 +32,7 @@ refuse-replace-requires c κs = search needs
 
 returns : tie.Need-returns
 returns c =
-    let s = c .before .before .before .before .before .before in
+    let s = c .before .before .before .before .before .before .before in
     let j = c .before .refuse-replace in
     let h = c .if1 .taken in
     record {
@@ -43,7 +43,7 @@ returns c =
 replace-whole-requires : tie.Need-replace-whole-requires
 replace-whole-requires c κs =
     let i = c .before .before .before .before in
-    let s = i .before .before .before .before .before .before in
+    let s = i .before .before .before .before .before .before .before in
     let n = replace-accepted (setup s) (s .args .c) (s .args .new .now) (old s) (zero i) in
     (given (setup s) (old s) (n .clear), (loan (setup s) (old s) (n .clear), (n .rect, n .pixels)))
 
@@ -63,7 +63,7 @@ returns-2 : tie.Need-returns-2
 returns-2 c =
     let w = c .before .before .before .before .before .before .before in
     let i = w .before .before .before .before .before in
-    let s = i .before .before .before .before .before .before in
+    let s = i .before .before .before .before .before .before .before in
     let e = zero i in
     record { answer = done (number s) e; after = w .replace-whole .ensures ∙ made (number s) (new s) (old s) e }
 

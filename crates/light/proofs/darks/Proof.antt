@@ -7,26 +7,26 @@ use lib.ListN.{length, getD}
 use Rattle.rules.specs.Shape.{described}
 use Rattle.windows.specs.Span.{windowed}
 use Rattle.columns.specs.Down.{RowIs}
-use Rattle.light.specs.Steps.{lane, leastAlong, darkAt}
+use Rattle.light.specs.Steps.{lane, leastAlong, levelAt}
 use Rattle.light.proofs.Rows.{zeros}
 use Rattle.light.proofs.Counts.{hits-below}
-use Rattle.light.proofs.Minima.{columns-start, dark-is, out-le}
+use Rattle.light.proofs.Minima.{columns-start, level-is, out-le}
 use Rattle.light.proofs.Areas.{roomy, dark-all}
 use Rattle.light.proofs.Going.{Going, given-start}
 use Rattle.light.proofs.darks.Statement.{statement}
 use Rattle.light.proofs.darks.Tie as tie
 
 abbrev Inv-loop : tie.InvT-loop
-Inv-loop z frame work₀ apart₀ tops₀ row₀ p₀ q₀ store₀ ahead₀ out₀ w h s i₀ work apart tops row p q store ahead out i =
-    Going (described z) s frame work₀ work apart tops row p q store ahead out i
+Inv-loop z mask frame work₀ apart₀ tops₀ row₀ p₀ q₀ store₀ ahead₀ out₀ levels₀ w h s i₀ work apart tops row p q store ahead out levels i =
+    Going (described z) s mask frame work₀ work apart tops row p q store ahead out levels i
 
 abbrev μ-loop : tie.MeasureT-loop
-μ-loop z frame work₀ apart₀ tops₀ row₀ p₀ q₀ store₀ ahead₀ out₀ w h s i₀ work apart tops row p q store ahead out i = h + s - i
+μ-loop z mask frame work₀ apart₀ tops₀ row₀ p₀ q₀ store₀ ahead₀ out₀ levels₀ w h s i₀ work apart tops row p q store ahead out levels i = h + s - i
 
 -- ---- where the call and the turn began, seen from a row's calls
 
 abbrev start-of : tie.In-loop Inv-loop μ-loop → tie.Start Inv-loop μ-loop
-start-of c = c .before .before .before .before .before
+start-of c = c .before .before .before .before .before .before
 
 abbrev turn-of : tie.After-take-row Inv-loop μ-loop → tie.In-loop Inv-loop μ-loop
 turn-of c = c .before .before .before .before
@@ -36,7 +36,7 @@ row-of c = c .before .before .before .before .before .before .before .before
 
 loop-holds : tie.Need-loop-holds Inv-loop μ-loop
 loop-holds c =
-    let s = c .before .before .before in
+    let s = c .before .before .before .before in
     let a = s .args in
     record {
       most = omega arith;
@@ -49,13 +49,14 @@ loop-holds c =
       store-long = zeros 62464;
       ahead-long = zeros 1024;
       out-long = zeros 1024;
+      levels-long = zeros 1024;
       columns = columns-start _ _ _ _ _ _;
-      given = given-start (described (a .z)) (a .k .s) (a .frame .now) (a .work .now) (a .apart .now) (a .tops .now) (s .pre .3);
+      given = given-start (described (a .z)) (a .k .s) (a .mask .now) (a .frame .now) (a .work .now) (a .apart .now) (a .tops .now) (s .pre .3);
     }
 
 add-loop : tie.Need-add-loop Inv-loop μ-loop
 add-loop c =
-    let g = c .before .before .before .before .pre .0 in
+    let g = c .before .before .before .before .before .pre .0 in
     omega (arith, g .settings .s-most, g .size .tall)
 
 slice-aggregate-take-row : tie.Need-slice-aggregate-take-row Inv-loop μ-loop
@@ -72,11 +73,11 @@ take-row-requires c κs =
     let t = c .before .before .before in
     let i = t .before .loop .inv in
     let g = start-of t .pre .0 in
-    ((g .size, g .settings .s-most, g .bytes), (i .row-long, i .p-long, i .q-long))
+    ((g .size, g .settings .s-most, g .shown, g .bytes), (i .row-long, i .p-long, i .q-long))
 
 -- the row is as long as it was
-row-long : (c : tie.After-take-row Inv-loop μ-loop) → length (c .take-row .last .1 .1 .1 .1 .0) ≡ 1024
-row-long c = c .take-row .kept .1 .1 .1 .1 .0 ∙ turn-of c .before .loop .inv .row-long
+row-long : (c : tie.After-take-row Inv-loop μ-loop) → length (c .take-row .last .1 .1 .1 .1 .1 .0) ≡ 1024
+row-long c = c .take-row .kept .1 .1 .1 .1 .1 .0 ∙ turn-of c .before .loop .inv .row-long
 
 slice-aggregate-down : tie.Need-slice-aggregate-down Inv-loop μ-loop
 slice-aggregate-down c = sym (row-long (c .before .before .before .before))
@@ -111,7 +112,7 @@ out-long c = c .down .kept .1 .1 .1 .1 .1 .1 .1 .0 ∙ turn-of (row-of c) .befor
 
 -- minima
 mins : (c : tie.After-down Inv-loop μ-loop) → let t = turn-of (row-of c) in let a = start-of t .args in let i = t .before .loop .i in let z = described (a .z) in a .k .s ≤ i
-    → RowIs (c .down .last .1 .1 .1 .1 .1 .1 .1 .0) (λ r x. windowed min (λ u. leastAlong z (a .k .s) (a .frame .now) u x) (a .k .s) (z .h) r) (i - a .k .s) (z .w)
+    → RowIs (c .down .last .1 .1 .1 .1 .1 .1 .1 .0) (λ r x. windowed min (λ u. leastAlong z (a .k .s) (a .mask .now) (a .frame .now) u x) (a .k .s) (z .h) r) (i - a .k .s) (z .w)
 mins c le = c .down .ensures .1 .0 _ (turn-of (row-of c) .before .loop .inv .columns) (row-of c .take-row .ensures) le
 
 -- for a row of the frame
@@ -120,31 +121,34 @@ low c le = omega (arith, turn-of (row-of c) .loop-test .taken)
 
 -- of bytes
 byte : (c : tie.In-loop Inv-loop μ-loop) (i : ℕ) → getD (start-of c .args .frame .now) i 0 ≤ 255
-byte c i = omega (arith, c .before .before .before .before .shared-slice-known .given i)
+byte c i = omega (arith, c .before .before .before .before .shared-slice-known2 .given i)
 
 slice-aggregate-give-row : tie.Need-slice-aggregate-give-row Inv-loop μ-loop
 slice-aggregate-give-row c = sym (out-long (c .before .before .before .before .before))
 
+slice-aggregate-give-row-2 : tie.Need-slice-aggregate-give-row-2 Inv-loop μ-loop
+slice-aggregate-give-row-2 c = sym (turn-of (row-of (c .before .before .before .before .before .before)) .before .loop .inv .levels-long)
+
 give-row-requires : tie.Need-give-row-requires Inv-loop μ-loop
 give-row-requires c κs =
-    let o = c .before .before .before .before .before .before .before in
+    let o = c .before .before .before .before .before .before .before .before in
     let t = turn-of (row-of o) in
     let s = start-of t in
     let a = s .args in
     let g = s .pre .0 in
     let l = t .before .loop in
     let z = described (a .z) in (
-      (g .size, t .loop-test .taken, omega (arith, roomy z, g .space, l .inv .long), l .inv .apart-long, l .inv .tops-long),
+      (g .size, t .loop-test .taken, omega (arith, roomy z, g .space, l .inv .long), g .shown, l .inv .levels-long, l .inv .apart-long, l .inv .tops-long),
       (
         omega (arith, g .size .wide, out-long o),
-        λ le. out-le z (a .k .s) (a .frame .now) (byte t) (o .down .last .1 .1 .1 .1 .1 .1 .1 .0) (l .i - a .k .s) (low o le) (mins o le),
-        hits-below (lane (darkAt z (a .k .s) (a .frame .now))) ((l .i - a .k .s) * a .z .w) (l .apart) (l .inv .given .counts),
+        λ le. out-le z (a .k .s) (a .mask .now) (a .frame .now) (byte t) (o .down .last .1 .1 .1 .1 .1 .1 .1 .0) (l .i - a .k .s) (low o le) (mins o le),
+        hits-below (lane (levelAt z (a .k .s) (a .mask .now) (a .frame .now))) ((l .i - a .k .s) * a .z .w) (l .apart) (l .inv .given .counts),
       ),
     )
 
 -- the turn, seen from its end
 abbrev done-of : tie.After-slice-known4 Inv-loop μ-loop → tie.After-down Inv-loop μ-loop
-done-of c = c .before .before .before .before .before .before .before .before .before .before .before .before .before
+done-of c = c .before .before .before .before .before .before .before .before .before .before .before .before .before .before .before
 
 add-i : tie.Need-add-i Inv-loop μ-loop
 add-i c =
@@ -164,39 +168,40 @@ loop-again c =
     let i = l .inv in
     let a = start-of t .args in
     let z = described (a .z) in
-    let g = c .before .before .before .before .before .give-row in
+    let g = c .before .before .before .before .before .before .give-row in
     record {
       most = omega (arith, t .loop-test .taken);
       long = g .kept .0 ∙ i .long;
-      apart-long = g .kept .1 .1 .1 .1 .1 .0 ∙ i .apart-long;
-      tops-long = g .kept .1 .1 .1 .1 .1 .1 .0 ∙ i .tops-long;
+      apart-long = g .kept .1 .1 .1 .1 .1 .1 .1 .0 ∙ i .apart-long;
+      tops-long = g .kept .1 .1 .1 .1 .1 .1 .1 .1 .0 ∙ i .tops-long;
       row-long = row-long r;
-      p-long = r .take-row .kept .1 .1 .1 .1 .1 .0 ∙ i .p-long;
-      q-long = r .take-row .kept .1 .1 .1 .1 .1 .1 .0 ∙ i .q-long;
+      p-long = r .take-row .kept .1 .1 .1 .1 .1 .1 .0 ∙ i .p-long;
+      q-long = r .take-row .kept .1 .1 .1 .1 .1 .1 .1 .0 ∙ i .q-long;
       store-long = o .down .kept .1 .1 .1 .1 .1 .0 ∙ i .store-long;
       ahead-long = o .down .kept .1 .1 .1 .1 .1 .1 .0 ∙ i .ahead-long;
       out-long = out-long o;
+      levels-long = g .kept .1 .1 .1 .1 .1 .1 .0 ∙ i .levels-long;
       columns = o .down .ensures .0 _ (i .columns) (r .take-row .ensures);
       given =
-          g .ensures (darkAt z (a .k .s) (a .frame .now)) (a .work .now) (i .given)
-          (λ le. dark-is z (a .k .s) (a .frame .now) (byte t) (o .down .last .1 .1 .1 .1 .1 .1 .1 .0) (l .i - a .k .s) (low o le) (mins o le));
+          g .ensures (levelAt z (a .k .s) (a .mask .now) (a .frame .now)) (a .work .now) (i .given)
+          (λ le. level-is z (a .k .s) (a .mask .now) (a .frame .now) (byte t) (o .down .last .1 .1 .1 .1 .1 .1 .1 .0) (l .i - a .k .s) (low o le) (mins o le));
     }
 
 same-length : tie.Need-same-length Inv-loop μ-loop
 same-length c = c .before .loop .inv .long
 
 same-length-2 : tie.Need-same-length-2 Inv-loop μ-loop
-same-length-2 c = c .before .loop .inv .apart-long ∙ sym (c .before .before .before .before .before .pre .1)
+same-length-2 c = c .before .loop .inv .apart-long ∙ sym (c .before .before .before .before .before .before .pre .1)
 
 same-length-3 : tie.Need-same-length-3 Inv-loop μ-loop
-same-length-3 c = c .before .loop .inv .tops-long ∙ sym (c .before .before .before .before .before .pre .2)
+same-length-3 c = c .before .loop .inv .tops-long ∙ sym (c .before .before .before .before .before .before .pre .2)
 
 returns : tie.Need-returns Inv-loop μ-loop
 returns c =
     let l = c .before .loop in
-    let a = c .before .before .before .before .before .args in
+    let a = c .before .before .before .before .before .before .args in
     let e : l .i - a .k .s ≡ a .z .h = omega (arith, l .inv .most, c .loop-test .left) in
-    (dark-all (a .z) (a .k) (a .frame .now) (a .work .now) (l .work) (l .apart) (l .tops) (rw e at (l .inv .given)), l .inv .given .rest)
+    (dark-all (a .z) (a .k) (a .mask .now) (a .frame .now) (a .work .now) (l .work) (l .apart) (l .tops) (rw e at (l .inv .given)), l .inv .given .rest)
 
 pub darks-spec : {M : Type 1} → statement M
 darks-spec =
@@ -216,6 +221,7 @@ darks-spec =
     slice-aggregate-down-4
     down-requires
     slice-aggregate-give-row
+    slice-aggregate-give-row-2
     give-row-requires
     add-i
     loop-less

@@ -9,10 +9,10 @@ use Rattle.light.proofs.join.Statement.{statement}
 use Rattle.light.proofs.join.Tie as tie
 
 abbrev Inv-loop : tie.InvT-loop
-Inv-loop apart counts₀ v₀ counts v = (v ≤ 256) × (length counts ≡ 256) × Starts (joined apart) v counts
+Inv-loop apart counts₀ v₀ counts v = (v ≤ 257) × (length counts ≡ 257) × Starts (joined apart) v counts
 
 abbrev μ-loop : tie.MeasureT-loop
-μ-loop apart counts₀ v₀ counts v = 256 - v
+μ-loop apart counts₀ v₀ counts v = 257 - v
 
 loop-holds : tie.Need-loop-holds Inv-loop μ-loop
 loop-holds c = (omega arith, c .before .before .pre .1, λ v h. absurd (omega arith))
@@ -46,7 +46,7 @@ same-length c = c .before .loop .inv .1 ∙ sym (c .before .before .before .befo
 returns : tie.Need-returns Inv-loop μ-loop
 returns c =
     let l = c .before .loop in
-    let e : l .v ≡ 256 = omega arith in
+    let e : l .v ≡ 257 = omega arith in
     rw e at (l .inv .2)
 
 pub join-spec : {M : Type 1} → statement M

@@ -2,23 +2,30 @@
 use mathlib.Core.Path.{_≡_, refl, ap, _∙_}
 use Prim.Native.Nat.{_+_, _-_, _≤_}
 use native.Mathlib.Omega.{arith}
-use lib.ListN.{length, length-set}
+use lib.ListN.{length, length-set, getD}
 use borrow.Author.Needs.{needs}
 use Rattle.rules.specs.Light.{darkest}
 use Rattle.rules.specs.Buffers.{pixelAt}
-use Rattle.light.specs.Steps.{Starts}
+use Rattle.light.specs.Steps.{Starts, leastBy}
 use Rattle.light.proofs.Counts.{starts-more}
 use Rattle.light.proofs.least_row.Statement.{statement}
 use Rattle.light.proofs.least_row.Tie as tie
 
 abbrev Inv-loop : tie.InvT-loop
-Inv-loop row₀ frame p n x₀ row x = (x ≤ n) × (length row ≡ length row₀) × Starts (λ i. darkest (pixelAt frame (p + i))) x row
+Inv-loop row₀ mask frame p n x₀ row x =
+    (x ≤ n) × (length row ≡ length row₀) × Starts (λ i. leastBy (getD mask (p + i) 0) (darkest (pixelAt frame (p + i)))) x row
 
 abbrev μ-loop : tie.MeasureT-loop
-μ-loop row₀ frame p n x₀ row x = n - x
+μ-loop row₀ mask frame p n x₀ row x = n - x
 
 loop-holds : tie.Need-loop-holds Inv-loop μ-loop
 loop-holds c = (omega arith, refl, λ i h. absurd (omega arith))
+
+add-least-by : tie.Need-add-least-by Inv-loop μ-loop
+add-least-by c = omega arith
+
+shared-slice-read-least-by : tie.Need-shared-slice-read-least-by Inv-loop μ-loop
+shared-slice-read-least-by c = omega arith
 
 add-pixel-at : tie.Need-add-pixel-at Inv-loop μ-loop
 add-pixel-at c = omega arith
@@ -29,8 +36,8 @@ pixel-at-requires c κs = omega arith
 darkest-of-requires : tie.Need-darkest-of-requires Inv-loop μ-loop
 darkest-of-requires c κs = search needs
 
-cast-row : tie.Need-cast-row Inv-loop μ-loop
-cast-row c = omega (arith, c .darkest-of .ensures)
+least-by-requires : tie.Need-least-by-requires Inv-loop μ-loop
+least-by-requires c κs = omega (arith, c .darkest-of .ensures)
 
 mul-row : tie.Need-mul-row Inv-loop μ-loop
 mul-row c = omega arith
@@ -46,12 +53,14 @@ loop-less c = omega arith
 
 loop-again : tie.Need-loop-again Inv-loop μ-loop
 loop-again c =
-    let l = c .before .before .before .loop in
-    let d = c .before .before .before .before .before .before .args in (
+    let l = c .before .before .before .before .before .loop in
+    let a = c .before .before .before .before .before .before .before .before .before .args in
+    let o = a .p + l .x in (
       omega arith,
       length-set (l .row) (l .x) _ ∙ l .inv .1,
-      starts-more (λ i. darkest (pixelAt (d .frame .now) (d .p + i))) (l .x) (l .row) _ (slice-write-row c)
-          (c .darkest-of .ensures ∙ ap darkest (c .before .pixel-at .ensures)) (l .inv .2),
+      starts-more (λ i. leastBy (getD (a .mask .now) (a .p + i) 0) (darkest (pixelAt (a .frame .now) (a .p + i)))) (l .x) (l .row) _ (slice-write-row c)
+          (c .least-by .ensures
+          ∙ ap (leastBy (getD (a .mask .now) o 0)) (c .before .darkest-of .ensures ∙ ap darkest (c .before .before .pixel-at .ensures))) (l .inv .2),
     )
 
 same-length : tie.Need-same-length Inv-loop μ-loop
@@ -59,7 +68,7 @@ same-length c = c .before .loop .inv .1
 
 returns : tie.Need-returns Inv-loop μ-loop
 returns c =
-    let e : c .before .loop .x ≡ c .before .before .before .before .args .n = omega arith in
+    let e : c .before .loop .x ≡ c .before .before .before .before .before .args .n = omega arith in
     rw e at (c .before .loop .inv .2)
 
 pub least-row-spec : {M : Type 1} → statement M
@@ -69,10 +78,12 @@ least-row-spec =
     Inv-loop
     μ-loop
     loop-holds
+    add-least-by
+    shared-slice-read-least-by
     add-pixel-at
     pixel-at-requires
     darkest-of-requires
-    cast-row
+    least-by-requires
     mul-row
     slice-write-row
     add-x

@@ -13,7 +13,7 @@ returns c h = absurd (omega (arith, c .if1 .taken))
 
 -- where the call began, seen from a row that there is
 abbrev start-of : tie.After-least-row-arg → tie.Start
-start-of c = c .before .before .before .before .before .before
+start-of c = c .before .before .before .before .before .before .before
 
 -- the row lies in the plane
 row : (c : tie.After-least-row-arg) → let a = start-of c .args in a .i * a .z .w + a .z .w ≤ a .z .w * a .z .h
@@ -25,7 +25,7 @@ mul-least-row c = omega (arith, row c, start-of c .pre .0 .0 .area)
 least-row-requires : tie.Need-least-row-requires
 least-row-requires c κs =
     let s = start-of c in
-    (omega (arith, s .pre .0 .0 .wide, s .pre .1 .0), omega (arith, row c, s .pre .0 .2))
+    (omega (arith, s .pre .0 .0 .wide, s .pre .1 .0), omega (arith, row c, s .pre .0 .2), omega (arith, row c, s .pre .0 .3))
 
 shrink-requires : tie.Need-shrink-requires
 shrink-requires c κs =
@@ -49,7 +49,7 @@ returns-2 c h =
     let k = c .before .before .before .before .before .before .shrink in
     let r = c .before .before .before .before .before .before .before .before .before .before .before .before in
     let a = start-of (r .before) .args in
-    along-is (described (a .z)) (a .s) (a .frame .now) (a .i) (r .least-row .last .0) (k .last .0) (r .least-row .ensures) (k .ensures .0)
+    along-is (described (a .z)) (a .s) (a .mask .now) (a .frame .now) (a .i) (r .least-row .last .0) (k .last .0) (r .least-row .ensures) (k .ensures .0)
 
 pub take-row-spec : {M : Type 1} → statement M
 take-row-spec =

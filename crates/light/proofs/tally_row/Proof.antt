@@ -12,8 +12,8 @@ use Rattle.light.proofs.tally_row.Tie as tie
 
 abbrev Inv-loop : tie.InvT-loop
 Inv-loop d first n apart₀ x₀ apart x =
-    (x ≤ n) × (length apart ≡ 1024) × Below (first + x) apart
-    × ((D : ℕ → ℕ) → Starts (hits (lane D) first) 1024 apart₀ → ((i : ℕ) → i < n → getD d i 0 ≡ D (first + i)) → Starts (hits (lane D) (first + x)) 1024 apart)
+    (x ≤ n) × (length apart ≡ 1028) × Below (first + x) apart
+    × ((D : ℕ → ℕ) → Starts (hits (lane D) first) 1028 apart₀ → ((i : ℕ) → i < n → getD d i 0 ≡ D (first + i)) → Starts (hits (lane D) (first + x)) 1028 apart)
 
 abbrev μ-loop : tie.MeasureT-loop
 μ-loop d first n apart₀ x₀ apart x = n - x
@@ -31,7 +31,7 @@ shared-slice-read-i : tie.Need-shared-slice-read-i Inv-loop μ-loop
 shared-slice-read-i c = omega arith
 
 -- the value that is counted
-small : (c : tie.After-shared-slice-known Inv-loop μ-loop) → getD (c .before .before .before .args .d .now) (c .before .before .loop .x) 0 ≤ 255
+small : (c : tie.After-shared-slice-known Inv-loop μ-loop) → getD (c .before .before .before .args .d .now) (c .before .before .loop .x) 0 ≤ 256
 small c = c .before .before .before .pre .2 (c .before .before .loop .x) (c .before .loop-test .taken)
 
 -- the lane it is counted in
@@ -90,7 +90,7 @@ loop-again c =
       rw e (below-more (d .first + l .x) (l .apart) x b (omega (arith, h)) (l .inv .2)),
       λ D s r.
           rw e
-          (tallied-more (lane D) 1024 (d .first + l .x) (l .apart) x b (ap (λ (v : ℕ). 4 * v + (d .first + l .x) % 4) (r (l .x) (omega arith))) (l .inv .3 D s r)),
+          (tallied-more (lane D) 1028 (d .first + l .x) (l .apart) x b (ap (λ (v : ℕ). 4 * v + (d .first + l .x) % 4) (r (l .x) (omega arith))) (l .inv .3 D s r)),
     )
 
 same-length : tie.Need-same-length Inv-loop μ-loop

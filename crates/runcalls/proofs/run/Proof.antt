@@ -6,10 +6,10 @@ use Rattle.runcalls.proofs.run.Statement.{statement}
 use Rattle.runcalls.proofs.run.Tie as tie
 
 abbrev Inv-loop : tie.InvT-loop
-Inv-loop text frame₀ new₀ map₀ picture₀ work₀ at₀ frame new map picture work at = at ≤ length text
+Inv-loop text mask₀ frame₀ new₀ map₀ picture₀ work₀ at₀ mask frame new map picture work at = at ≤ length text
 
 abbrev μ-loop : tie.MeasureT-loop
-μ-loop text frame₀ new₀ map₀ picture₀ work₀ at₀ frame new map picture work at = length text - at
+μ-loop text mask₀ frame₀ new₀ map₀ picture₀ work₀ at₀ mask frame new map picture work at = length text - at
 
 pub run-spec : {M : Type 1} → statement M
 run-spec =

@@ -56,7 +56,7 @@ add-s-2 : tie.Need-add-s-2 Inv-loop μ-loop
 add-s-2 c =
     let h = c .before .before .before in
     let a = h .before .before .before in
-    moves (a .pre .0) (a .pre .2) (h .loop .inv .1) .fit
+    moves (a .pre .0) (a .pre .2) (h .loop .inv .1 .holds) .fit
 
 add-t : tie.Need-add-t Inv-loop μ-loop
 add-t c = omega arith
@@ -83,7 +83,7 @@ add-t-2 : tie.Need-add-t-2 Inv-loop μ-loop
 add-t-2 c =
     let h = c .before .before .before .before .before in
     let a = h .before .before .before in
-    moves (a .pre .1) (a .pre .2) (h .loop .inv .2) .fit
+    moves (a .pre .1) (a .pre .2) (h .loop .inv .2 .holds) .fit
 
 mul-s-3 : tie.Need-mul-s-3 Inv-loop μ-loop
 mul-s-3 c = omega arith

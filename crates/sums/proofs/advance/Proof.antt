@@ -3,14 +3,18 @@ use Prim.Native.Nat.{ℕ, _+_, _*_, _<_, _-_}
 use native.Mathlib.Omega.{arith}
 use mir.Syntax.{w64}
 use mir.Val.{Fits}
+use Rattle.planes.proofs.Shown.{row-end}
 use Rattle.sums.specs.Sum.{RowIn}
-use Rattle.sums.proofs.Strips.{row-in, enter-strip, leave-strip, slide-strip, same-strip}
+use Rattle.sums.proofs.Strips.{cells-row, summable-small, row-in, enter-strip, leave-strip, slide-strip, same-strip}
 use Rattle.sums.proofs.advance.Statement.{statement}
 use Rattle.sums.proofs.advance.Tie as tie
 
 -- row u of the plane
 row : (s : tie.Start) (u : ℕ) → u < s .args .v .h → RowIn (s .args .cols .now) (s .args .r + 1) (s .args .plane .now) (u * s .args .v .w) (s .args .v .w)
-row s u q = row-in (s .pre .0 .0) (s .pre .1) (omega arith) u q
+row s u q =
+    let w = s .args .v .w in
+    row-in (summable-small (s .pre .0 .0)) (s .pre .1) (omega arith) (s .args .plane .now) (u * w) u (cells-row (s .args .plane .now) w u) q
+    (omega (arith, row-end w (s .args .v .h) u q, s .pre .0 .0 .room))
 
 place : (s : tie.Start) (u : ℕ) → u < s .args .v .h → Fits w64 (u * s .args .v .w)
 place s u q = omega (arith, row s u q .row)
@@ -46,7 +50,7 @@ returns c =
     let t = n .before .before .before in
     let s = t .before .before .before in
     let a = s .args in
-    leave-strip (a .plane .now) (s .pre .1) (n .leave .kept .0) (a .y - a .r - 1) (a .y + 1) (n .leave .ensures)
+    leave-strip (a .plane .now) (s .pre .1) (n .leave .kept .0) ((a .y - a .r - 1) * a .v .w) (a .y - a .r - 1) (a .y + 1) (cells-row (a .plane .now) (a .v .w) (a .y - a .r - 1)) (n .leave .ensures)
     (omega arith) (omega (arith, s .pre .0 .1, t .before .if1 .taken, t .if2 .taken)) (omega (arith, t .if2 .taken)) (omega (arith, t .before .if1 .taken))
 
 returns-2 : tie.Need-returns-2
@@ -79,7 +83,7 @@ returns-3 c =
     let t = n .before .before .before in
     let s = t .before .before .before in
     let a = s .args in
-    enter-strip (a .plane .now) (s .pre .1) (n .enter .kept .0) (a .y + a .r) (a .v .h) (a .y + 1) (n .enter .ensures)
+    enter-strip (a .plane .now) (s .pre .1) (n .enter .kept .0) ((a .y + a .r) * a .v .w) (a .y + a .r) (a .v .h) (a .y + 1) (cells-row (a .plane .now) (a .v .w) (a .y + a .r)) (n .enter .ensures)
     (omega (arith, t .before .if1 .left)) (omega arith) (omega (arith, t .if3 .taken)) (omega (arith, t .before .if1 .left))
 
 add-slide : tie.Need-add-slide
@@ -118,7 +122,8 @@ returns-4 c =
     let t = n .before .before .before .before in
     let s = t .before .before .before in
     let a = s .args in
-    slide-strip (a .plane .now) (s .pre .1) (n .slide .kept .0) (a .y + a .r) (a .y - a .r - 1) (a .y + 1) (n .slide .ensures)
+    slide-strip (a .plane .now) (s .pre .1) (n .slide .kept .0) ((a .y + a .r) * a .v .w) ((a .y - a .r - 1) * a .v .w) (a .y + a .r) (a .y - a .r - 1) (a .y + 1)
+    (cells-row (a .plane .now) (a .v .w) (a .y + a .r)) (cells-row (a .plane .now) (a .v .w) (a .y - a .r - 1)) (n .slide .ensures)
     (omega (arith, t .before .if1 .left)) (omega arith) (omega arith) (omega (arith, t .if3 .left)) (omega (arith, t .before .if1 .left))
 
 pub advance-spec : {M : Type 1} → statement M

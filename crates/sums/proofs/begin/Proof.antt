@@ -6,8 +6,9 @@ use native.Mathlib.Omega.{arith}
 use mir.Syntax.{w64}
 use mir.Val.{Fits}
 use Rattle.planes.specs.Cells.{cells}
+use Rattle.planes.proofs.Shown.{row-end}
 use Rattle.sums.specs.Sum.{Columns, RowIn}
-use Rattle.sums.proofs.Strips.{row-in, enter-strip, same-strip, none-strip}
+use Rattle.sums.proofs.Strips.{cells-row, summable-small, row-in, enter-strip, same-strip, none-strip}
 use Rattle.sums.proofs.begin.Statement.{statement}
 use Rattle.sums.proofs.begin.Tie as tie
 
@@ -25,7 +26,11 @@ row : (t : tie.In-loop Inv-loop μ-loop) → let h = t .before in let a = h .bef
     RowIn (h .loop .cols) (a .r + 1) (a .plane .now) (h .loop .y * a .v .w) (a .v .w)
 row t =
     let h = t .before in
-    row-in (h .before .before .before .pre .0) (h .loop .inv .3) (omega (arith, inside t .0)) (h .loop .y) (inside t .0)
+    let y = h .loop .y in
+    let s = h .before .before .before .pre .0 in
+    let a = h .before .before .before .args in
+    row-in (summable-small s) (h .loop .inv .3) (omega (arith, inside t .0)) (a .plane .now) (y * a .v .w) y (cells-row (a .plane .now) (a .v .w) y) (inside t .0)
+    (omega (arith, row-end (a .v .w) (a .v .h) y (inside t .0), s .room))
 
 cut-requires : tie.Need-cut-requires Inv-loop μ-loop
 cut-requires c κs =
@@ -77,7 +82,8 @@ loop-again c =
       omega arith,
       omega arith,
       n .enter .kept .0 ∙ i .2,
-      enter-strip (a .plane .now) (i .3) (n .enter .kept .0) (h .loop .y) (h .loop .y + 1) (a .v .top) (n .enter .ensures)
+      enter-strip (a .plane .now) (i .3) (n .enter .kept .0) (h .loop .y * a .v .w) (h .loop .y) (h .loop .y + 1) (a .v .top)
+          (cells-row (a .plane .now) (a .v .w) (h .loop .y)) (n .enter .ensures)
           (omega (arith, inside t .1)) (i .0) (omega arith) (omega (arith, inside t .1)),
     )
 

@@ -1,7 +1,7 @@
 -- `sums::next` meets its contract: both planes' columns go on by a row, and the sums along them are those over the squares. Assumes nothing.
 use Prim.Native.Nat.{_+_, _<_}
 use native.Mathlib.Omega.{arith}
-use Rattle.sums.proofs.Strips.{spannable, along}
+use Rattle.sums.proofs.Strips.{summable-small, spannable, along}
 use Rattle.sums.proofs.next.Statement.{statement}
 use Rattle.sums.proofs.next.Tie as tie
 
@@ -33,8 +33,8 @@ across-requires c κs =
     let n = m .before .before .before .before in
     let s = n .before .before .before in
     let p = s .pre .0 .0 in (
-      spannable p (n .advance .ensures) (omega arith),
-      spannable (s .pre .0 .1) (m .advance2 .ensures) (omega arith),
+      spannable (summable-small p) (n .advance .ensures) (omega arith),
+      spannable (summable-small (s .pre .0 .1)) (m .advance2 .ensures) (omega arith),
       omega (arith, p .r-most),
       omega (arith, p .r-most, p .in-plane .fits .columns, p .in-plane .short),
       s .pre .0 .3,

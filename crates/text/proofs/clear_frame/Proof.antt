@@ -14,27 +14,33 @@ mul-n c = omega (arith, few _ (c .before .before .before .pre .size-small))
 mul-m : tie.Need-mul-m
 mul-m c = omega (arith, few _ (c .before .before .before .pre .size-small))
 
-slice-aggregate-show : tie.Need-slice-aggregate-show
-slice-aggregate-show c = sym (length-take-le _ _ (omega (arith, few _ (c .before .before .before .before .pre .size-small), c .before .before .before .before .pre)))
+array-share-prefix-mask : tie.Need-array-share-prefix-mask
+array-share-prefix-mask c = omega (arith, few _ (c .before .before .before .pre .size-small))
 
-array-borrow-prefix-map : tie.Need-array-borrow-prefix-map
-array-borrow-prefix-map c = omega (arith, few _ (c .before .before .before .before .pre .size-small))
+slice-aggregate-show : tie.Need-slice-aggregate-show
+slice-aggregate-show c = sym (length-take-le _ _ (omega (arith, few _ (c .before .before .before .before .pre .size-small))))
 
 slice-aggregate-show-2 : tie.Need-slice-aggregate-show-2
-slice-aggregate-show-2 c = sym (length-take-le _ _ (omega (arith, few _ (c .before .before .before .before .before .pre .size-small))))
+slice-aggregate-show-2 c = sym (length-take-le _ _ (omega (arith, few _ (c .before .before .before .before .before .pre .size-small), c .before .before .before .before .before .pre)))
 
-array-borrow-prefix-picture : tie.Need-array-borrow-prefix-picture
-array-borrow-prefix-picture c = omega (arith, few _ (c .before .before .before .before .before .pre .size-small))
+array-borrow-prefix-map : tie.Need-array-borrow-prefix-map
+array-borrow-prefix-map c = omega (arith, few _ (c .before .before .before .before .before .pre .size-small))
 
 slice-aggregate-show-3 : tie.Need-slice-aggregate-show-3
 slice-aggregate-show-3 c = sym (length-take-le _ _ (omega (arith, few _ (c .before .before .before .before .before .before .pre .size-small))))
 
+array-borrow-prefix-picture : tie.Need-array-borrow-prefix-picture
+array-borrow-prefix-picture c = omega (arith, few _ (c .before .before .before .before .before .before .pre .size-small))
+
 slice-aggregate-show-4 : tie.Need-slice-aggregate-show-4
-slice-aggregate-show-4 c = search needs
+slice-aggregate-show-4 c = sym (length-take-le _ _ (omega (arith, few _ (c .before .before .before .before .before .before .before .pre .size-small))))
+
+slice-aggregate-show-5 : tie.Need-slice-aggregate-show-5
+slice-aggregate-show-5 c = search needs
 
 show-requires : tie.Need-show-requires
 show-requires c κs =
-    let s = c .before .before .before .before .before .before .before .before in
+    let s = c .before .before .before .before .before .before .before .before .before in
     prepared (s .args .z) (s .args .k) (s .args .frame .now) _ _ _ _ (s .pre) (omega arith) (omega arith) (omega arith)
 
 same-length : tie.Need-same-length
@@ -49,12 +55,14 @@ clear-frame-spec =
     (tie.spec
     mul-n
     mul-m
+    array-share-prefix-mask
     slice-aggregate-show
-    array-borrow-prefix-map
     slice-aggregate-show-2
-    array-borrow-prefix-picture
+    array-borrow-prefix-map
     slice-aggregate-show-3
+    array-borrow-prefix-picture
     slice-aggregate-show-4
+    slice-aggregate-show-5
     show-requires
     same-length
     returns)

@@ -36,20 +36,20 @@ same-length-4 c = search needs
 
 returns : tie.Need-returns
 returns c =
-    let s = c .before .before .before .before .before .before .before .before .before .before .before .before .before .before .before .before .before .before .before .before .before .before .before .before .before .before .before .before .before in
+    let s = c .before .before .before .before .before .before .before .before .before .before .before .before .before .before .before .before .before .before .before .before .before .before .before .before .before .before .before .before .before .before in
     let l = c .before .before .before .before .before .before .before .before .before .before .before .before .before .before .before .before .before .before .before .before .before .before .before .light in
     let a = c .before .before .before .before .before .before .before .before .before .before .before .before .before .before .before .before .before .before .before .before .a in
     let k = c .before .before .before .before .before .before .before .before .before .before .before .before .before .before .before .clear in
-    finished (s .args .z) (s .args .k) (record { frame = s .args .frame .now; map = s .args .map .now; picture = s .args .picture .now; work = s .args .work .now }) _ (s .pre) (l .result) _ (l .ensures) (a .given .0 .0) (k .result) _ (s .args .out .now) _ _ _ _ (a .given .1) (l .kept .1 .1 .1 .0)
-    (k .ensures) (k .kept .1 .1 .1 .1 .0) (c .before .before .before .before .before .before .before .before .put-light .ensures .0) (c .before .before .put-outs .ensures)
+    finished (s .args .z) (s .args .k) (s .args .mask .now) (record { frame = s .args .frame .now; map = s .args .map .now; picture = s .args .picture .now; work = s .args .work .now }) _ (s .pre) (l .result) _ (l .ensures) (a .given .0 .0) (k .result) _ (s .args .out .now) _ _ _ _ (a .given .1) (l .kept .1 .1 .1 .1 .0)
+    (k .ensures) (k .kept .1 .1 .1 .1 .1 .0) (c .before .before .before .before .before .before .before .before .put-light .ensures .0) (c .before .before .put-outs .ensures)
 
 same-length-5 : tie.Need-same-length-5
 same-length-5 c = search needs
 
 returns-2 : tie.Need-returns-2
 returns-2 c =
-    let s = c .before .before .before .before .before .before .before .before .before in
-    never (s .args .z) (s .args .k) (record { frame = s .args .frame .now; map = s .args .map .now; picture = s .args .picture .now; work = s .args .work .now }) _ (s .pre) (c .before .before .before .light .result) _ (c .before .before .before .light .ensures) _ (c .enum-told .given .1)
+    let s = c .before .before .before .before .before .before .before .before .before .before in
+    never (s .args .z) (s .args .k) (s .args .mask .now) (record { frame = s .args .frame .now; map = s .args .map .now; picture = s .args .picture .now; work = s .args .work .now }) _ (s .pre) (c .before .before .before .light .result) _ (c .before .before .before .light .ensures) _ (c .enum-told .given .1)
 
 pub show-spec : {M : Type 1} → statement M
 show-spec =

@@ -3,20 +3,20 @@ use mathlib.Core.Path.{_≡_}
 use Prim.Native.Nat.{_-_, _≤_, _<_}
 use native.Mathlib.Omega.{arith}
 use Rattle.writer.specs.Run.{Run}
-use Rattle.writer.specs.Row.{entryBy}
+use Rattle.writer.specs.Row.{entryFrom}
 use Rattle.writer.proofs.Runs.{run-none, run-to, run-more}
 use Rattle.writer.proofs.Refined.{window-asks, entry-is}
 use Rattle.writer.proofs.refine_row.Statement.{statement}
 use Rattle.writer.proofs.refine_row.Tie as tie
 
 abbrev Inv-loop : tie.InvT-loop
-Inv-loop map₀ frame p n slopes offsets ns inverses i₀ map i = (i ≤ n) × Run (entryBy frame p slopes offsets ns) p i map₀ map
+Inv-loop map₀ mask frame p n slopes offsets ns inverses i₀ map i = (i ≤ n) × Run (entryFrom mask frame p slopes offsets ns) p i map₀ map
 
 abbrev μ-loop : tie.MeasureT-loop
-μ-loop map₀ frame p n slopes offsets ns inverses i₀ map i = n - i
+μ-loop map₀ mask frame p n slopes offsets ns inverses i₀ map i = n - i
 
 abbrev start : tie.In-loop Inv-loop μ-loop → tie.Start Inv-loop μ-loop
-start t = t .before .before .before .before .before .before
+start t = t .before .before .before .before .before .before .before
 
 loop-holds : tie.Need-loop-holds Inv-loop μ-loop
 loop-holds c = (omega arith, run-none _ _ _)
@@ -60,16 +60,22 @@ refined-requires c κs =
     let s = start t in
     let d = s .args in
     let less : t .before .loop .i < d .n = t .loop-test .taken in
-    window-asks (d .n) (d .slopes .now) (d .offsets .now) (d .ns .now) (d .inverses .now) (s .pre .2) (t .before .loop .i) less (c .guide-of .result) (c .guide-of .ensures .1)
+    window-asks (d .n) (d .slopes .now) (d .offsets .now) (d .ns .now) (d .inverses .now) (s .pre .3) (t .before .loop .i) less (c .guide-of .result) (c .guide-of .ensures .1)
 
-cast-map : tie.Need-cast-map Inv-loop μ-loop
-cast-map c = omega (arith, c .refined .ensures .1)
+add-entry-by : tie.Need-add-entry-by Inv-loop μ-loop
+add-entry-by c = omega arith
+
+shared-slice-read-entry-by : tie.Need-shared-slice-read-entry-by Inv-loop μ-loop
+shared-slice-read-entry-by c = omega arith
+
+entry-by-requires : tie.Need-entry-by-requires Inv-loop μ-loop
+entry-by-requires c κs = c .before .refined .ensures .1
 
 mul-map : tie.Need-mul-map Inv-loop μ-loop
 mul-map c = omega arith
 
 slice-write-map : tie.Need-slice-write-map Inv-loop μ-loop
-slice-write-map c = omega (arith, c .before .before .before .before .before .before .before .before .loop .inv .1 .same)
+slice-write-map c = omega (arith, c .before .before .before .before .before .before .before .before .before .before .loop .inv .1 .same)
 
 add-i : tie.Need-add-i Inv-loop μ-loop
 add-i c = omega arith
@@ -79,22 +85,22 @@ loop-less c = omega arith
 
 loop-again : tie.Need-loop-again Inv-loop μ-loop
 loop-again c =
-    let t = c .before .before .before .before .before .before .before in
+    let t = c .before .before .before .before .before .before .before .before .before in
     let s = start t in
     let d = s .args in
     let l = t .before .loop in
     let less : l .i < d .n = t .loop-test .taken in
     let e =
-    entry-is (d .n) (d .slopes .now) (d .offsets .now) (d .ns .now) (d .inverses .now) (s .pre .2) (l .i) less (d .frame .now) (d .p)
-    (c .before .before .pixel-at .result) (c .before .guide-of .result) (c .refined .result)
-    (c .before .before .pixel-at .ensures) (c .before .guide-of .ensures .0) (c .refined .ensures .0) in
-    (omega arith, run-more _ (d .p) (l .i) (c .refined .result) (d .map .now) (l .map) (l .inv .1) (omega (arith, l .inv .1 .same)) e)
+    entry-is (d .n) (d .slopes .now) (d .offsets .now) (d .ns .now) (d .inverses .now) (s .pre .3) (l .i) less (d .mask .now) (d .frame .now) (d .p)
+    (c .before .before .before .before .pixel-at .result) (c .before .before .before .guide-of .result) (c .before .before .refined .result) (c .entry-by .result)
+    (c .before .before .before .before .pixel-at .ensures) (c .before .before .before .guide-of .ensures .0) (c .before .before .refined .ensures .0) (c .entry-by .ensures) in
+    (omega arith, run-more _ (d .p) (l .i) (c .entry-by .result) (d .map .now) (l .map) (l .inv .1) (omega (arith, l .inv .1 .same)) e)
 
 same-length : tie.Need-same-length Inv-loop μ-loop
 same-length c = c .before .loop .inv .1 .same
 
 returns : tie.Need-returns Inv-loop μ-loop
-returns c = run-to _ _ (let z : c .before .loop .i ≡ c .before .before .before .before .before .before .args .n = omega arith in z) (c .before .loop .inv .1)
+returns c = run-to _ _ (let z : c .before .loop .i ≡ c .before .before .before .before .before .before .before .args .n = omega arith in z) (c .before .loop .inv .1)
 
 pub refine-row-spec : {M : Type 1} → statement M
 refine-row-spec =
@@ -115,7 +121,9 @@ refine-row-spec =
     pixel-at-requires
     guide-of-requires
     refined-requires
-    cast-map
+    add-entry-by
+    shared-slice-read-entry-by
+    entry-by-requires
     mul-map
     slice-write-map
     add-i

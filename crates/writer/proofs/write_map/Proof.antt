@@ -1,21 +1,21 @@
 -- `writer::write_map` meets its contract: after y turns the first y rows are in the map. Assumes nothing.
-use mathlib.Core.Path.{_≡_, refl, sym, _∙_}
+use mathlib.Core.Path.{_≡_, refl, sym, ap₂, _∙_}
 use Prim.Native.Nat.{ℕ, _+_, _-_, _*_, _^_, _≤_, _<_}
 use native.Mathlib.Nat.{add-assoc}
 use native.Mathlib.Omega.{arith}
 use mathlib.Core.List.{List}
 use lib.ListN.{length}
 use lib.IntN.{ℤ}
-use Rattle.rules.specs.Window.{Plane}
+use Rattle.rules.specs.Window.{Plane, Shown}
 use Rattle.rules.specs.Light.{at}
 use Rattle.rules.specs.Transmission.{Line}
 use Rattle.rules.specs.Buffers.{pixels}
 use Rattle.planes.specs.View.{whole, rectOf, rowStart}
-use Rattle.planes.specs.Stage.{Lined}
+use Rattle.planes.specs.Stage.{Lined, boxSeen}
 use Rattle.planes.proofs.Tails.{rest, rest-length}
 use Rattle.sums.specs.Sum.{Summable}
 use Rattle.sums.proofs.Lent.{zeros}
-use Rattle.writer.specs.Write.{refinedBy}
+use Rattle.writer.specs.Write.{entryOver}
 use Rattle.writer.proofs.Parts.{Upto}
 use Rattle.writer.proofs.Rows.{rows, entryIn, entries-none, entries-more, upto-entries}
 use Rattle.writer.proofs.Sliding.{slopes-summable, offsets-summable, Sliding, sliding-first}
@@ -24,14 +24,14 @@ use Rattle.writer.proofs.write_map.Statement.{statement}
 use Rattle.writer.proofs.write_map.Tie as tie
 
 abbrev Inv-loop : tie.InvT-loop
-Inv-loop map₀ frame to work lines v r slopes₀ offsets₀ one₀ two₀ ns₀ inverses₀ table₀ second known₀ y₀ map slopes offsets one two ns inverses table known y =
+Inv-loop map₀ mask frame to work lines b v r slopes₀ offsets₀ one₀ two₀ ns₀ over₀ table₀ counts₀ second y₀ map slopes offsets one two ns over table counts y =
     (y ≤ v .tall)
-    × ((F : Plane Line) → Lined work lines (v .w) (v .h) F
-    → Upto (at (whole to) (refinedBy to v r (pixels (whole to) frame) F)) (entryIn (to .w) (rows (rectOf to) y)) map₀ map)
-    × Sliding v r work lines y known slopes offsets one two ns inverses table
+    × ((F : Plane (Shown Line)) → Lined work lines (v .w) (v .h) (boxSeen b mask) F
+    → Upto (at (whole to) (entryOver to v r (pixels (whole to) frame) F)) (entryIn (to .w) (rows (rectOf to) y)) map₀ map)
+    × Sliding b v r mask work lines y slopes offsets counts one two ns over table
 
 abbrev μ-loop : tie.MeasureT-loop
-μ-loop map₀ frame to work lines v r slopes₀ offsets₀ one₀ two₀ ns₀ inverses₀ table₀ second known₀ y₀ map slopes offsets one two ns inverses table known y =
+μ-loop map₀ mask frame to work lines b v r slopes₀ offsets₀ one₀ two₀ ns₀ over₀ table₀ counts₀ second y₀ map slopes offsets one two ns over table counts y =
     v .tall - y
 
 -- what is given: the lines fit in the work area, and the view in the plane
@@ -52,125 +52,141 @@ given s =
 slopes-given : (s : tie.Start Inv-loop μ-loop) → let d = s .args in Summable (rest (d .work .now) (d .lines)) (d .v) (d .r)
 slopes-given s =
     let d = s .args in
-    slopes-summable (d .v) (d .r) (d .work .now) (d .lines) (s .pre .1 .2 .F) (s .pre .1 .2 .lined) (s .pre .0 .1) (s .pre .0 .4)
+    slopes-summable (d .v) (d .r) (d .work .now) (d .lines) (boxSeen (d .b) (d .mask .now)) (s .pre .1 .2 .F) (s .pre .1 .2 .lined) (s .pre .0 .1) (s .pre .0 .4)
 
 offsets-given : (s : tie.Start Inv-loop μ-loop) → let d = s .args in Summable (rest (d .work .now) (d .lines + d .v .w * d .v .h)) (d .v) (d .r)
 offsets-given s =
     let d = s .args in
-    offsets-summable (d .v) (d .r) (d .work .now) (d .lines) (s .pre .1 .2 .F) (s .pre .1 .2 .lined) (s .pre .0 .1) (s .pre .0 .4)
+    offsets-summable (d .v) (d .r) (d .work .now) (d .lines) (boxSeen (d .b) (d .mask .now)) (s .pre .1 .2 .F) (s .pre .1 .2 .lined) (s .pre .0 .1) (s .pre .0 .4)
 
 abbrev start : tie.Then1 Inv-loop μ-loop → tie.Start Inv-loop μ-loop
-start t = t .before .before .before .before .before .before .before .before .before .before .before .before .before .before
+start t = t .before .before .before .before .before .before .before .before .before .before .before .before .before .before .before .before .before .before
 
 mul-second : tie.Need-mul-second Inv-loop μ-loop
-mul-second c = omega (arith, given (c .before .before .before))
+mul-second c = omega (arith, given (c .before .before .before .before))
 
 add-second : tie.Need-add-second Inv-loop μ-loop
-add-second c = omega (arith, given (c .before .before .before))
+add-second c = omega (arith, given (c .before .before .before .before))
 
 slice-aggregate-begin : tie.Need-slice-aggregate-begin Inv-loop μ-loop
 slice-aggregate-begin c = refl
 
-mul-begin : tie.Need-mul-begin Inv-loop μ-loop
-mul-begin c = omega (arith, given (c .before .before .before .before))
-
-sub-begin : tie.Need-sub-begin Inv-loop μ-loop
-sub-begin c = omega (arith, given (c .before .before .before .before))
-
-part-begin-start : tie.Need-part-begin-start Inv-loop μ-loop
-part-begin-start c = omega (arith, given (c .before .before .before .before))
-
-part-begin-end : tie.Need-part-begin-end Inv-loop μ-loop
-part-begin-end c = omega (arith, given (c .before .before .before .before))
-
 begin-requires : tie.Need-begin-requires Inv-loop μ-loop
-begin-requires c κs = (slopes-given (c .before .before .before .before .before), refl, zeros 1152)
+begin-requires c κs =
+    let s = c .before .before .before .before .before in
+    (s .pre .0 .1, s .pre .0 .5, s .pre .0 .4, refl, zeros 1152)
 
 slice-aggregate-begin-2 : tie.Need-slice-aggregate-begin-2 Inv-loop μ-loop
 slice-aggregate-begin-2 c = refl
 
-mul-begin-2 : tie.Need-mul-begin-2 Inv-loop μ-loop
-mul-begin-2 c = omega (arith, given (c .before .before .before .before .before .before .before .before))
+mul-begin : tie.Need-mul-begin Inv-loop μ-loop
+mul-begin c = omega (arith, given (c .before .before .before .before .before .before .before .before))
 
-sub-begin-2 : tie.Need-sub-begin-2 Inv-loop μ-loop
-sub-begin-2 c = omega (arith, given (c .before .before .before .before .before .before .before .before))
+sub-begin : tie.Need-sub-begin Inv-loop μ-loop
+sub-begin c = omega (arith, given (c .before .before .before .before .before .before .before .before))
 
-part-begin-start-2 : tie.Need-part-begin-start-2 Inv-loop μ-loop
-part-begin-start-2 c = omega (arith, given (c .before .before .before .before .before .before .before .before))
+part-begin-start : tie.Need-part-begin-start Inv-loop μ-loop
+part-begin-start c = omega (arith, given (c .before .before .before .before .before .before .before .before))
 
-part-begin-end-2 : tie.Need-part-begin-end-2 Inv-loop μ-loop
-part-begin-end-2 c = omega (arith, given (c .before .before .before .before .before .before .before .before))
+part-begin-end : tie.Need-part-begin-end Inv-loop μ-loop
+part-begin-end c = omega (arith, given (c .before .before .before .before .before .before .before .before))
 
 begin-requires-2 : tie.Need-begin-requires-2 Inv-loop μ-loop
-begin-requires-2 c κs = (offsets-given (c .before .before .before .before .before .before .before .before .before), refl, zeros 1152)
+begin-requires-2 c κs = (slopes-given (c .before .before .before .before .before .before .before .before .before), refl, zeros 1152)
+
+slice-aggregate-begin-3 : tie.Need-slice-aggregate-begin-3 Inv-loop μ-loop
+slice-aggregate-begin-3 c = refl
+
+mul-begin-2 : tie.Need-mul-begin-2 Inv-loop μ-loop
+mul-begin-2 c = omega (arith, given (c .before .before .before .before .before .before .before .before .before .before .before .before))
+
+sub-begin-2 : tie.Need-sub-begin-2 Inv-loop μ-loop
+sub-begin-2 c = omega (arith, given (c .before .before .before .before .before .before .before .before .before .before .before .before))
+
+part-begin-start-2 : tie.Need-part-begin-start-2 Inv-loop μ-loop
+part-begin-start-2 c = omega (arith, given (c .before .before .before .before .before .before .before .before .before .before .before .before))
+
+part-begin-end-2 : tie.Need-part-begin-end-2 Inv-loop μ-loop
+part-begin-end-2 c = omega (arith, given (c .before .before .before .before .before .before .before .before .before .before .before .before))
+
+begin-requires-3 : tie.Need-begin-requires-3 Inv-loop μ-loop
+begin-requires-3 c κs = (offsets-given (c .before .before .before .before .before .before .before .before .before .before .before .before .before), refl, zeros 1152)
 
 loop-holds : tie.Need-loop-holds Inv-loop μ-loop
 loop-holds c =
-    let d = c .before .before .before .before .before .before .before .before .before .before .before .args in
-    (omega arith, λ F lined. entries-none (d .to .w) (rectOf (d .to)) _ _, sliding-first (d .v) (d .r) (d .work .now) (d .lines) _ _ (c .before .before .before .before .before .begin .ensures) (c .before .begin2 .ensures))
+    let d = c .before .before .before .before .before .before .before .before .before .before .before .before .before .before .before .args in (
+      omega arith,
+      λ F lined. entries-none (d .to .w) (rectOf (d .to)) _ _,
+      sliding-first (d .b) (d .v) (d .r) (d .mask .now) (d .work .now) (d .lines) _ _ _ (c .before .before .before .before .before .begin2 .ensures) (c .before .begin3 .ensures) (c .before .before .before .before .before .before .before .before .before .begin .ensures),
+    )
 
 slice-aggregate-resize : tie.Need-slice-aggregate-resize Inv-loop μ-loop
-slice-aggregate-resize c = sym (c .before .before .before .loop .inv .2 .reciprocals .long)
+slice-aggregate-resize c = sym (c .before .before .before .loop .inv .2 .seen-columns .long)
 
 slice-aggregate-resize-2 : tie.Need-slice-aggregate-resize-2 Inv-loop μ-loop
-slice-aggregate-resize-2 c = sym (c .before .before .before .before .loop .inv .2 .ns-long)
+slice-aggregate-resize-2 c = sym (c .before .before .before .before .loop .inv .2 .reciprocals .long)
 
 slice-aggregate-resize-3 : tie.Need-slice-aggregate-resize-3 Inv-loop μ-loop
-slice-aggregate-resize-3 c = sym (c .before .before .before .before .before .loop .inv .2 .inverses-long)
+slice-aggregate-resize-3 c = sym (c .before .before .before .before .before .loop .inv .2 .ns-long)
+
+slice-aggregate-resize-4 : tie.Need-slice-aggregate-resize-4 Inv-loop μ-loop
+slice-aggregate-resize-4 c = sym (c .before .before .before .before .before .before .loop .inv .2 .inverses-long)
 
 resize-requires : tie.Need-resize-requires Inv-loop μ-loop
 resize-requires c κs =
-    let t = c .before .before .before in
+    let t = c .before .before .before .before in
     let s = start t in
-    let i = t .before .before .loop .inv .2 in
-    ((s .pre .0 .1, s .pre .0 .4, t .if1 .taken, i .reciprocals, omega (arith, given s, i .ns-long), omega (arith, given s, i .inverses-long)), i .sizes)
+    let i = t .before .before .loop .inv .2 in (
+      (s .pre .0 .1, s .pre .0 .5, s .pre .0 .4, t .if1 .taken, i .reciprocals, omega (arith, given s, i .ns-long), omega (arith, given s, i .inverses-long)),
+      (i .seen-columns, i .sizes),
+    )
 
 slice-aggregate-next : tie.Need-slice-aggregate-next Inv-loop μ-loop
-slice-aggregate-next c = sym (c .before .before .before .before .before .before .before .before .before .before .loop .inv .2 .slope-columns .long)
+slice-aggregate-next c = sym (c .before .before .before .before .before .before .before .before .before .before .before .before .loop .inv .2 .slope-columns .long)
 
 slice-aggregate-next-2 : tie.Need-slice-aggregate-next-2 Inv-loop μ-loop
-slice-aggregate-next-2 c = sym (c .before .before .before .before .before .before .before .before .before .before .before .loop .inv .2 .offset-columns .long)
+slice-aggregate-next-2 c = sym (c .before .before .before .before .before .before .before .before .before .before .before .before .before .loop .inv .2 .offset-columns .long)
 
 mul-next : tie.Need-mul-next Inv-loop μ-loop
-mul-next c = omega (arith, given (start (c .before .before .before .before .before .before .before .before .before)))
+mul-next c = omega (arith, given (start (c .before .before .before .before .before .before .before .before .before .before .before)))
 
 sub-next : tie.Need-sub-next Inv-loop μ-loop
-sub-next c = omega (arith, given (start (c .before .before .before .before .before .before .before .before .before)))
+sub-next c = omega (arith, given (start (c .before .before .before .before .before .before .before .before .before .before .before)))
 
 part-next-start : tie.Need-part-next-start Inv-loop μ-loop
-part-next-start c = omega (arith, given (start (c .before .before .before .before .before .before .before .before .before)))
+part-next-start c = omega (arith, given (start (c .before .before .before .before .before .before .before .before .before .before .before)))
 
 part-next-end : tie.Need-part-next-end Inv-loop μ-loop
-part-next-end c = omega (arith, given (start (c .before .before .before .before .before .before .before .before .before)))
+part-next-end c = omega (arith, given (start (c .before .before .before .before .before .before .before .before .before .before .before)))
 
 mul-next-2 : tie.Need-mul-next-2 Inv-loop μ-loop
-mul-next-2 c = omega (arith, given (start (c .before .before .before .before .before .before .before .before .before .before)))
+mul-next-2 c = omega (arith, given (start (c .before .before .before .before .before .before .before .before .before .before .before .before)))
 
 sub-next-2 : tie.Need-sub-next-2 Inv-loop μ-loop
-sub-next-2 c = omega (arith, given (start (c .before .before .before .before .before .before .before .before .before .before)))
+sub-next-2 c = omega (arith, given (start (c .before .before .before .before .before .before .before .before .before .before .before .before)))
 
 part-next-start-2 : tie.Need-part-next-start-2 Inv-loop μ-loop
-part-next-start-2 c = omega (arith, given (start (c .before .before .before .before .before .before .before .before .before .before)))
+part-next-start-2 c = omega (arith, given (start (c .before .before .before .before .before .before .before .before .before .before .before .before)))
 
 part-next-end-2 : tie.Need-part-next-end-2 Inv-loop μ-loop
-part-next-end-2 c = omega (arith, given (start (c .before .before .before .before .before .before .before .before .before .before)))
+part-next-end-2 c = omega (arith, given (start (c .before .before .before .before .before .before .before .before .before .before .before .before)))
 
 slice-aggregate-next-3 : tie.Need-slice-aggregate-next-3 Inv-loop μ-loop
-slice-aggregate-next-3 c = sym (c .before .before .before .before .before .before .before .before .before .before .before .before .before .before .loop .inv .2 .one-long)
+slice-aggregate-next-3 c = sym (c .before .before .before .before .before .before .before .before .before .before .before .before .before .before .before .before .loop .inv .2 .one-long)
 
 slice-aggregate-next-4 : tie.Need-slice-aggregate-next-4 Inv-loop μ-loop
-slice-aggregate-next-4 c = sym (c .before .before .before .before .before .before .before .before .before .before .before .before .before .before .before .loop .inv .2 .two-long)
+slice-aggregate-next-4 c = sym (c .before .before .before .before .before .before .before .before .before .before .before .before .before .before .before .before .before .loop .inv .2 .two-long)
 
 next-requires : tie.Need-next-requires Inv-loop μ-loop
 next-requires c κs =
-    let t = c .before .before .before .before .before .before .before .before .before .before .before .before .before in
+    let t = c .before .before .before .before .before .before .before .before .before .before .before .before .before .before .before in
     let s = start t in
     let i = t .before .before .loop .inv .2 in
     ((slopes-given s, offsets-given s, t .if1 .taken, omega (arith, given s, i .one-long), omega (arith, given s, i .two-long)), (i .slope-columns, i .offset-columns))
 
 row-start-requires : tie.Need-row-start-requires Inv-loop μ-loop
 row-start-requires c κs =
-    let t = c .before .before .before .before .before .before .before .before .before .before .before .before .before .before .before .before .before .before in
+    let t = c .before .before .before .before .before .before .before .before .before .before .before .before .before .before .before .before .before .before .before .before in
     let s = start t in
     let less : t .before .before .loop .y < s .args .v .tall = t .if1 .taken in
     (s .pre .0 .0, omega (arith, s .pre .0 .3))
@@ -180,10 +196,10 @@ abbrev summed : tie.After-row-start Inv-loop μ-loop → tie.After-next Inv-loop
 summed c = c .before .before .before .before .before
 
 abbrev resized : tie.After-row-start Inv-loop μ-loop → tie.After-resize Inv-loop μ-loop
-resized c = summed c .before .before .before .before .before .before .before .before .before .before
+resized c = summed c .before .before .before .before .before .before .before .before .before .before .before
 
 abbrev turn : tie.After-row-start Inv-loop μ-loop → tie.Then1 Inv-loop μ-loop
-turn c = resized c .before .before .before .before
+turn c = resized c .before .before .before .before .before
 
 -- the lists of this turn
 abbrev one-now : tie.After-row-start Inv-loop μ-loop → List ℤ
@@ -193,27 +209,27 @@ abbrev two-now : tie.After-row-start Inv-loop μ-loop → List ℤ
 two-now c = summed c .next .last .1 .1 .1 .1 .1 .1 .1 .1 .0
 
 abbrev ns-now : tie.After-row-start Inv-loop μ-loop → List ℕ
-ns-now c = resized c .resize .last .1 .1 .1 .1 .1 .0
+ns-now c = resized c .resize .last .1 .1 .1 .1 .1 .1 .1 .0
 
 abbrev inverses-now : tie.After-row-start Inv-loop μ-loop → List ℕ
-inverses-now c = resized c .resize .last .1 .1 .1 .1 .1 .1 .0
+inverses-now c = resized c .resize .last .1 .1 .1 .1 .1 .1 .1 .1 .0
 
--- have the sums and the sizes of its row; the path of n is written out, since `rw` does not see through `resized`
+-- have the sums and the sizes of its row
 row : (c : tie.After-row-start Inv-loop μ-loop) →
     let d = start (turn c) .args in
-    RowRead (d .v) (d .r) (turn c .before .before .loop .y) (d .work .now) (d .lines) (one-now c) (two-now c) (ns-now c) (inverses-now c)
+    RowRead (d .b) (d .v) (d .r) (turn c .before .before .loop .y) (d .mask .now) (d .work .now) (d .lines) (one-now c) (two-now c) (ns-now c) (inverses-now c)
 row c =
     let i = turn c .before .before .loop .inv .2 in
     let m = summed c .next in
-    let n = c .before .before .before .before .before .before .before .before .before .before .before .before .before .before .before .resize in
+    let n = resized c .resize in
     record {
-      sizes = rw (n .ensures .0) at (n .ensures .1 .1);
+      sizes = n .ensures .1 .1;
       slopes = m .ensures .1 .0;
       offsets = m .ensures .1 .1;
       one-long = m .kept .1 .1 .1 .1 .1 .1 .1 .0 ∙ i .one-long;
       two-long = m .kept .1 .1 .1 .1 .1 .1 .1 .1 .0 ∙ i .two-long;
-      ns-long = n .kept .1 .1 .1 .1 .1 .0 ∙ i .ns-long;
-      inverses-long = n .kept .1 .1 .1 .1 .1 .1 .0 ∙ i .inverses-long;
+      ns-long = n .kept .1 .1 .1 .1 .1 .1 .1 .0 ∙ i .ns-long;
+      inverses-long = n .kept .1 .1 .1 .1 .1 .1 .1 .1 .0 ∙ i .inverses-long;
     }
 
 -- which lies in the map
@@ -226,11 +242,13 @@ place : (c : tie.After-row-start Inv-loop μ-loop) →
     × (d .v .wide ≡ d .to .wide)
     × (length (turn c .before .before .loop .map) ≡ d .to .w * d .to .h)
     × (length (d .frame .now) ≡ 3 * (d .to .w * d .to .h))
+    × (length (d .mask .now) ≡ d .to .w * d .to .h)
 place c =
     let s = start (turn c) in
     let l = turn c .before .before .loop in
     let u = l .inv .1 (s .pre .1 .2 .F) (s .pre .1 .2 .lined) in
-    (c .row-start .ensures .0, c .row-start .ensures .1, s .pre .0 .0 .area, s .pre .0 .2, u .same ∙ s .pre .1 .0, s .pre .1 .1)
+    let area = ap₂ (λ (i j : ℕ). i * j) (s .pre .0 .6 .w) (s .pre .0 .6 .h) in
+    (c .row-start .ensures .0, c .row-start .ensures .1, s .pre .0 .0 .area, s .pre .0 .2, u .same ∙ s .pre .1 .0, s .pre .1 .1, s .pre .0 .5 .bytes ∙ area)
 
 mul-refine-row : tie.Need-mul-refine-row Inv-loop μ-loop
 mul-refine-row c = omega (arith, place c)
@@ -265,7 +283,8 @@ refine-row-requires c κs =
     let p = place r in (
       omega (arith, p, rest-length (l .map) (r .row-start .result)),
       omega (arith, p),
-      windows (d .v) (d .r) (l .y) (d .work .now) (d .lines) (one-now r) (two-now r) (ns-now r) (inverses-now r) (row r) (s .pre .1 .2 .F) (s .pre .1 .2 .lined) (s .pre .0 .1) (s .pre .0 .4) (turn r .if1 .taken),
+      omega (arith, p),
+      windows (d .b) (d .v) (d .r) (l .y) (d .mask .now) (d .work .now) (d .lines) (one-now r) (two-now r) (ns-now r) (inverses-now r) (row r) (s .pre .1 .2 .F) (s .pre .1 .2 .lined) (s .pre .0 .1) (s .pre .0 .4) (turn r .if1 .taken),
     )
 
 add-y : tie.Need-add-y Inv-loop μ-loop
@@ -294,18 +313,20 @@ loop-again c =
     let across : d .to .left + d .to .wide ≤ d .to .w = s .pre .0 .0 .fits .columns in
     let m = summed r .next in
     let n = resized r .resize in
+    let again : l .y + 1 - 1 ≡ l .y = omega arith in
     let e = row r in (
       omega arith,
       λ F lined.
           entries-more (d .to .w) (rectOf (d .to)) (omega (arith, across, s .pre .0 .0 .across)) across (l .y) _ (d .map .now) (l .map) (w .last .0) from (length (l .map) - from) (l .inv .1 F lined) (p .0)
-          (row-entries v (d .r) (l .y) (d .work .now) (d .lines) (one-now r) (two-now r) (ns-now r) (inverses-now r) e F lined (s .pre .0 .1) (s .pre .0 .4) less (d .to) across (s .pre .0 .2)
+          (row-entries (d .b) v (d .r) (l .y) (d .mask .now) (d .work .now) (d .lines) (one-now r) (two-now r) (ns-now r) (inverses-now r) e F lined (s .pre .0 .1) (s .pre .0 .4) less (d .to) across (s .pre .0 .2) (s .pre .0 .6)
           (d .frame .now) from _ (w .last .0) (p .0) (w .ensures))
           (omega (arith, p)) (omega (arith, p)),
       record {
         slope-columns = rw (← add-assoc (v .top) (l .y) 1) (m .ensures .0 .0);
         offset-columns = rw (← add-assoc (v .top) (l .y) 1) (m .ensures .0 .1);
+        seen-columns = rw (← add-assoc (v .top) (l .y) 1) (n .ensures .0);
         reciprocals = n .ensures .1 .0;
-        sizes = λ h. n .ensures .1 .1;
+        sizes = λ h. rw again (n .ensures .1 .1);
         one-long = e .one-long;
         two-long = e .two-long;
         ns-long = e .ns-long;
@@ -315,12 +336,12 @@ loop-again c =
 
 same-length : tie.Need-same-length Inv-loop μ-loop
 same-length c =
-    let s = c .before .before .before .before .before .before .before .before .before .before .before .before .before .before in
+    let s = c .before .before .before .before .before .before .before .before .before .before .before .before .before .before .before .before .before .before in
     c .before .before .loop .inv .1 (s .pre .1 .2 .F) (s .pre .1 .2 .lined) .same
 
 returns : tie.Need-returns Inv-loop μ-loop
 returns c =
-    let s = c .before .before .before .before .before .before .before .before .before .before .before .before .before .before in
+    let s = c .before .before .before .before .before .before .before .before .before .before .before .before .before .before .before .before .before .before in
     let d = s .args in
     let l = c .before .before .loop in
     let e : l .y ≡ d .to .tall = omega (arith, l .inv .0, c .if1 .left, s .pre .0 .3) in (
@@ -337,21 +358,24 @@ write-map-spec =
     mul-second
     add-second
     slice-aggregate-begin
+    begin-requires
+    slice-aggregate-begin-2
     mul-begin
     sub-begin
     part-begin-start
     part-begin-end
-    begin-requires
-    slice-aggregate-begin-2
+    begin-requires-2
+    slice-aggregate-begin-3
     mul-begin-2
     sub-begin-2
     part-begin-start-2
     part-begin-end-2
-    begin-requires-2
+    begin-requires-3
     loop-holds
     slice-aggregate-resize
     slice-aggregate-resize-2
     slice-aggregate-resize-3
+    slice-aggregate-resize-4
     resize-requires
     slice-aggregate-next
     slice-aggregate-next-2

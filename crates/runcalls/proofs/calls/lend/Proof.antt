@@ -6,14 +6,17 @@ use borrow.Author.Needs.{needs}
 use Rattle.runcalls.proofs.calls.lend.Statement.{statement}
 use Rattle.runcalls.proofs.calls.lend.Tie as tie
 
-frame-long : tie.Need-slice-aggregate-report
-frame-long c = sym (length-take-le _ _ (c .before .before .before .before .before .before .before .at-most .ensures))
+mask-long : tie.Need-slice-aggregate-report
+mask-long c = sym (length-take-le _ _ (c .before .before .before .before .before .before .before .before .at-most .ensures))
 
-new-long : tie.Need-slice-aggregate-report-2
-new-long c = sym (length-take-le _ _ (c .before .before .before .before .before .before .before .at-most2 .ensures))
+frame-long : tie.Need-slice-aggregate-report-2
+frame-long c = sym (length-take-le _ _ (c .before .before .before .before .before .before .before .before .at-most2 .ensures))
 
-work-long : tie.Need-slice-aggregate-report-3
-work-long c = sym (length-take-le _ _ (c .before .before .before .before .before .at-most5 .ensures))
+new-long : tie.Need-slice-aggregate-report-3
+new-long c = sym (length-take-le _ _ (c .before .before .before .before .before .before .before .before .at-most3 .ensures))
+
+work-long : tie.Need-slice-aggregate-report-4
+work-long c = sym (length-take-le _ _ (c .before .before .before .before .before .before .at-most6 .ensures))
 
 pub lend-spec : {M : Type 1} → statement M
 lend-spec =
@@ -22,21 +25,23 @@ lend-spec =
     (λ c κs. lit< tt)
     (λ c κs. lit< tt)
     (λ c κs. lit< tt)
-    (λ c κs. (lit< tt, c .at-most3 .ensures))
     (λ c κs. lit< tt)
     (λ c κs. (lit< tt, c .at-most4 .ensures))
     (λ c κs. lit< tt)
-    (λ c. c .before .before .before .before .before .before .at-most .ensures)
+    (λ c κs. (lit< tt, c .at-most5 .ensures))
+    (λ c κs. lit< tt)
+    mask-long
+    (λ c. c .before .before .before .before .before .before .before .at-most2 .ensures)
     frame-long
     new-long
     (λ c. search needs)
-    (λ c. c .before .before .before .before .before .past .ensures .0)
-    (λ c. c .before .before .before .before .before .past .ensures .0)
-    (λ c. c .before .before .before .before .before .past .ensures .1)
-    (λ c. c .before .before .before .before .past2 .ensures .0)
-    (λ c. c .before .before .before .before .past2 .ensures .0)
-    (λ c. c .before .before .before .before .past2 .ensures .1)
-    (λ c. c .before .before .before .before .at-most5 .ensures)
+    (λ c. c .before .before .before .before .before .before .past .ensures .0)
+    (λ c. c .before .before .before .before .before .before .past .ensures .0)
+    (λ c. c .before .before .before .before .before .before .past .ensures .1)
+    (λ c. c .before .before .before .before .before .past2 .ensures .0)
+    (λ c. c .before .before .before .before .before .past2 .ensures .0)
+    (λ c. c .before .before .before .before .before .past2 .ensures .1)
+    (λ c. c .before .before .before .before .before .at-most6 .ensures)
     work-long
     (λ c κs. tt)
     (λ c. search needs)
