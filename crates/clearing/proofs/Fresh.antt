@@ -1,6 +1,6 @@
 -- What is written by way of a box and its lines is what the whole frame has, and what the passes leave of the work area is wiped alike. Assumes nothing.
 use mathlib.Core.Path.{_≡_, refl, ap, ap₂, _∙_, sym}
-use mathlib.Core.Bool.{Bool, true, false, cond}
+use mathlib.Core.Bool.{Bool, true, cond}
 use mathlib.Core.List.{List}
 use Prim.Native.Nat.{ℕ, _+_, _-_, _*_, _≤_, _<_, max}
 use native.Mathlib.Nat.{mul-le-mul}
@@ -16,7 +16,7 @@ use Rattle.rules.specs.Transmission.{Line, sample, fit, refine, refined, mapEnt
 use Rattle.rules.specs.Picture.{recover3, cleared}
 use Rattle.rules.specs.Buffers.{pixels, seenIn, masked, values, bytes, entries, patch, near, mapWith, frameWith}
 use Rattle.rules.specs.Box.{part, Fits, Covers}
-use Rattle.rules.proofs.Buffers.{entries-cong, bytes-cong, values-entries}
+use Rattle.rules.proofs.Buffers.{patch-cong, entries-cong, bytes-cong, values-entries}
 use Rattle.rules.proofs.Local.{window-local}
 use Rattle.rules.proofs.Near.{Near, near-yes, near-facts}
 use Rattle.rules.proofs.Box.{Boxed, window-box, fit-box}
@@ -38,15 +38,6 @@ covered z b top left fits q t covers F law f v u hv hu e =
     let s : left ≤ u = covers .column v u hv hu e in
     sym (law f (v - top) (u - left) (covers .sees v u hv hu e))
     ∙ ap₂ (F z f) (let i : top + (v - top) ≡ v = omega arith in i) (let i : left + (u - left) ≡ u = omega arith in i)
-
--- new values that agree where the test holds are written alike
-patch-cong : {A : Type 0} (t : ℕ → ℕ → Bool) (new new′ old : Plane A) (v u : ℕ) → (t v u ≡ true → new v u ≡ new′ v u) → patch t new old v u ≡ patch t new′ old v u
-unfolding patch
-patch-cong t new new′ old v u h = go (t v u) refl
-  where
-    go : (c : Bool) → t v u ≡ c → cond c (new v u) (old v u) ≡ cond c (new′ v u) (old v u)
-    go true e = h e
-    go false e = refl
 
 -- what is written where the test holds
 patch-at : {A : Type 0} (t : ℕ → ℕ → Bool) (new old : Plane A) (v u : ℕ) → t v u ≡ true → patch t new old v u ≡ new v u

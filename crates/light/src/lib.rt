@@ -18,7 +18,7 @@ use rules::Rgb;
 use rules::Settings;
 use rules::Size;
 
-// The cutoff of the dark values, and how many pixels at it are let in.
+// The cutoff of the levels, and how many pixels at it are let in.
 struct Cut {
     value: usize,
     ties: usize,

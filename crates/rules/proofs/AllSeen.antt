@@ -1,7 +1,6 @@
 -- An all-seen mask gives the results of document 01 with no mask: the light, and what Clear and Replace leave (`all-light`, `all-clear`, `all-replace`).
 -- So any two such masks give the same. The calls' own promises are in AllSeenCalls. Assumes nothing.
 use mathlib.Core.Path.{_≡_, ap, _∙_}
-use mathlib.Core.Bool.{Bool}
 use mathlib.Core.List.{List}
 use Prim.Native.Nat.{ℕ, _+_, _*_, _≤_, _<_}
 use lib.ListN.{length, getD}
@@ -14,8 +13,8 @@ use Rattle.rules.specs.Light.{places, light}
 use Rattle.rules.specs.Transmission.{mapEntry}
 use Rattle.rules.specs.Picture.{cleared}
 use Rattle.rules.specs.Setup.{Setup, shape}
-use Rattle.rules.specs.Buffers.{pixels, masked, bytes, values, entries, State, near, patch, mapWith, frameWith, pasted, reach, clear, replace}
-use Rattle.rules.proofs.Buffers.{place-lt, seen-byte, entries-cong, bytes-cong}
+use Rattle.rules.specs.Buffers.{pixels, masked, bytes, values, entries, State, near, mapWith, frameWith, pasted, reach, clear, replace}
+use Rattle.rules.proofs.Buffers.{place-lt, seen-byte, patch-cong, entries-cong, bytes-cong}
 use Rattle.rules.proofs.Unseen.{SameIn, places-same, light-same, entry-same, cleared-same}
 use Rattle.rules.proofs.Plain.{lightAll, refinedAll, clearedAll, plain-number, plain-light, plain-entry, plain-cleared}
 
@@ -63,10 +62,6 @@ replaceAll z k a c new s =
     let t = near (reach k) c in
     record { frame = frame; map = mapWith z t (refinedAll z k a (pixels z frame)) (s .map); picture = frameWith z t (clearedAll z k a (pixels z frame)) (s .picture) }
 
-patch-same : {A : Type 0} (t : ℕ → ℕ → Bool) (new new′ old : Plane A) (y x : ℕ) → new y x ≡ new′ y x → patch t new old y x ≡ patch t new′ old y x
-unfolding patch
-patch-same t new new′ old y x e = rw e
-
 module _ (p : Setup) (all : AllSeen (shape p) (p .mask)) where
   pub all-clear : (frame : List ℕ) → clear p frame ≡ clearAll (shape p) (p .settings) (p .light) frame
   unfolding clear
@@ -83,6 +78,6 @@ module _ (p : Setup) (all : AllSeen (shape p) (p .mask)) where
       let z = shape p in
       let k = p .settings in
       let frame = pasted z c new (s .frame) in
-      let map = entries-cong z _ _ (λ y x hy hx. patch-same (near (reach k) c) _ _ (values z (s .map)) y x (all-entry z (p .mask) all frame k (p .light) y x hy hx)) in
-      let picture = bytes-cong z _ _ (λ y x hy hx. patch-same (near (reach k) c) _ _ (pixels z (s .picture)) y x (all-cleared z (p .mask) all frame k (p .light) y x hy hx)) in
+      let map = entries-cong z _ _ (λ y x hy hx. patch-cong (near (reach k) c) _ _ (values z (s .map)) y x (λ t. all-entry z (p .mask) all frame k (p .light) y x hy hx)) in
+      let picture = bytes-cong z _ _ (λ y x hy hx. patch-cong (near (reach k) c) _ _ (pixels z (s .picture)) y x (λ t. all-cleared z (p .mask) all frame k (p .light) y x hy hx)) in
       λ i. record { frame = frame; map = map i; picture = picture i }

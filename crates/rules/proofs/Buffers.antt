@@ -1,7 +1,7 @@
 -- What is written to a buffer is read from it again, at each pixel of the frame; and planes that agree in the frame are written alike. A pixel is seen
 -- exactly where the mask's byte is not 0, and frames that agree at a pixel agree there under any mask. Assumes nothing.
 use mathlib.Core.Path.{_≡_, refl, ap, ap₂, _∙_, sym}
-use mathlib.Core.Bool.{true, false, not}
+use mathlib.Core.Bool.{Bool, true, false, not, cond}
 use mathlib.Core.List.{List}
 use Prim.Native.Nat.{ℕ, zero, suc, _+_, _*_, _/_, _%_, _≤_, _<_}
 use native.Mathlib.Nat.{mod-lt, div-lt-iff-lt-mul, div-add-mod', add-zero}
@@ -16,7 +16,7 @@ use Rattle.rules.specs.Shape.{Shape}
 use Rattle.rules.specs.declared.Rgb.{Rgb}
 use Rattle.rules.specs.Window.{Plane, from}
 use Rattle.rules.specs.Light.{at}
-use Rattle.rules.specs.Buffers.{pixelAt, pixels, seenIn, masked, channel, bytes, values, entries}
+use Rattle.rules.specs.Buffers.{pixelAt, pixels, seenIn, masked, channel, bytes, values, entries, patch}
 use Rattle.rules.proofs.Local.{Agree, from-cong, from-length}
 
 from-getD′ : {A : Type 0} (a n : ℕ) (f : ℕ → A) (i : ℕ) (d : A) → i < n → getD (from a n f) i d ≡ f (a + i)
@@ -68,6 +68,15 @@ pixels-bytes z f y x hy hx =
     let green : getD (bytes z f) (3 * p + 1) 0 ≡ f y x .g = byte z f p 1 l (omega arith) ∙ ap (channel 1) e in
     let blue : getD (bytes z f) (3 * p + 2) 0 ≡ f y x .b = byte z f p 2 l (omega arith) ∙ ap (channel 2) e in
     λ i. record { r = red i; g = green i; b = blue i }
+
+-- new values that agree where the test holds are written alike
+pub patch-cong : {A : Type 0} (t : ℕ → ℕ → Bool) (new new′ old : Plane A) (y x : ℕ) → (t y x ≡ true → new y x ≡ new′ y x) → patch t new old y x ≡ patch t new′ old y x
+unfolding patch
+patch-cong t new new′ old y x h = go (t y x) refl
+  where
+    go : (c : Bool) → t y x ≡ c → cond c (new y x) (old y x) ≡ cond c (new′ y x) (old y x)
+    go true e = h e
+    go false e = refl
 
 pub entries-cong : (z : Shape) (f g : Plane ℕ) → ((y x : ℕ) → y < z .h → x < z .w → f y x ≡ g y x) → entries z f ≡ entries z g
 unfolding entries

@@ -29,7 +29,7 @@ unfolding badSeen
 returns c =
     let at = c .before .before .before in
     let mask = at .before .args .mask .now in
-    let e : hides (getD mask (at .loop .i) 0) ≡ false = ne-eqb (getD mask (at .loop .i) 0) 0 (c .if1 .taken) in
+    let e : hides (getD mask (at .loop .i) 0) ≡ false = ne-eqb (getD mask (at .loop .i) 0) 0 (λ e. omega arith) in
     let f = front-more _&&_ hides true mask and-assoc (at .loop .i) true (omega arith) (at .loop .inv .1) in
     (rw e at f) .is
 
@@ -43,7 +43,7 @@ loop-again : tie.Need-loop-again Inv-loop μ-loop
 loop-again c =
     let at = c .before .before .before in
     let mask = at .before .args .mask .now in
-    let e : hides (getD mask (at .loop .i) 0) ≡ true = eq-eqb (getD mask (at .loop .i) 0) 0 (c .if1 .left) in
+    let e : hides (getD mask (at .loop .i) 0) ≡ true = eq-eqb (getD mask (at .loop .i) 0) 0 (omega arith) in
     let f = front-more _&&_ hides true mask and-assoc (at .loop .i) true (omega arith) (at .loop .inv .1) in
     (omega arith, rw e at f)
 
