@@ -1,5 +1,5 @@
 /* A row of two pixels, cleared: the light is found, the frame cleared under it, one pixel replaced, the map's figure and depths read off, and the picture
- * written as a PPM file and read back. Then one pixel is hidden, and both. */
+ * written as a PPM file and read back. Then one pixel is hidden, and both. Last, how many comparisons a frame takes. */
 #include <stdio.h>
 #include "haze.h"
 
@@ -18,18 +18,19 @@ int main(void)
     int64_t work[HAZE_WORK(W, H)] = {0};
     double mean = 0, least = 0;
     uint8_t file[sizeof "P6\n2 1\n255\n" - 1 + sizeof picture];
-    uint64_t w = 0, h = 0;
+    uint64_t w = 0, h = 0, comparisons = 0;
 
     settings.s = 0;
     settings.r = 1;
-    answer = haze_light(W, H, &settings, mask, sizeof mask, frame, sizeof frame, work, HAZE_WORK(W, H), &lights);
+    answer = haze_light(W, H, &settings, mask, sizeof mask, frame, sizeof frame, work, HAZE_WORK(W, H), &lights, &comparisons);
     printf("light %d: %d %d %d\n", answer, lights.light.red, lights.light.green, lights.light.blue);
 
-    answer = haze_clear(W, H, &settings, &lights, mask, sizeof mask, frame, sizeof frame, map, W * H, picture, sizeof picture, work, HAZE_WORK(W, H));
+    answer = haze_clear(W, H, &settings, &lights, mask, sizeof mask, frame, sizeof frame, map, W * H, picture, sizeof picture, work, HAZE_WORK(W, H),
+                        &comparisons);
     printf("clear %d: %d %d, second pixel %d %d %d\n", answer, map[0], map[1], picture[3], picture[4], picture[5]);
 
     answer = haze_replace(W, H, &settings, &lights, &second, new_pixel, sizeof new_pixel, mask, sizeof mask, frame, sizeof frame, map, W * H, picture,
-                          sizeof picture, work, HAZE_WORK(W, H));
+                          sizeof picture, work, HAZE_WORK(W, H), &comparisons);
     printf("replace %d: %d %d, second pixel %d %d %d\n", answer, map[0], map[1], picture[3], picture[4], picture[5]);
 
     answer = haze_band(W, H, map, W * H, 0, 1, &mean, &least);
@@ -54,15 +55,24 @@ int main(void)
     printf("add %d: %d %d %d\n", answer, frame[3], frame[4], frame[5]);
 
     mask[1] = 0;
-    answer = haze_clear(W, H, &settings, &lights, mask, sizeof mask, frame, sizeof frame, map, W * H, picture, sizeof picture, work, HAZE_WORK(W, H));
+    answer = haze_clear(W, H, &settings, &lights, mask, sizeof mask, frame, sizeof frame, map, W * H, picture, sizeof picture, work, HAZE_WORK(W, H),
+                        &comparisons);
     printf("clear with the second pixel hidden %d: %d %d, second pixel %d %d %d\n", answer, map[0], map[1], picture[3], picture[4], picture[5]);
 
+    settings.s = 1;
+    answer = haze_clear(W, H, &settings, &lights, mask, sizeof mask, frame, sizeof frame, map, W * H, picture, sizeof picture, work, HAZE_WORK(W, H),
+                        &comparisons);
+    printf("clear with s 1 %d: %d comparisons\n", answer, (int)comparisons);
+
     mask[0] = 0;
-    answer = haze_light(W, H, &settings, mask, sizeof mask, frame, sizeof frame, work, HAZE_WORK(W, H), &lights);
+    answer = haze_light(W, H, &settings, mask, sizeof mask, frame, sizeof frame, work, HAZE_WORK(W, H), &lights, &comparisons);
     printf("light with nothing seen is refused %d: %s\n", answer, haze_words(answer));
 
     settings.s = 31;
-    answer = haze_clear(W, H, &settings, &lights, mask, sizeof mask, frame, sizeof frame, map, W * H, picture, sizeof picture, work, HAZE_WORK(W, H));
+    answer = haze_clear(W, H, &settings, &lights, mask, sizeof mask, frame, sizeof frame, map, W * H, picture, sizeof picture, work, HAZE_WORK(W, H),
+                        &comparisons);
     printf("clear with s 31 is refused %d: %s\n", answer, haze_words(answer));
+
+    printf("640 by 360 with s 7: %d comparisons\n", (int)haze_comparisons(640, 360, 7));
     return answer != HAZE_BAD_SETTING;
 }

@@ -21,6 +21,7 @@ static uint8_t peer_frame[3 * MOST], peer_picture[3 * MOST], peer_hazy[3 * MOST]
 static uint16_t map[MOST], peer_map[MOST], depths[MOST], peer_depths_of[MOST];
 static int64_t work[WORK_MOST];
 static _Alignas(64) uint8_t scratch[16 * MOST];
+static uint64_t comparisons, peer_taken;
 static double mean, least, peer_mean, peer_least;
 
 /* ---- the calls, each of the library and of the peer */
@@ -30,19 +31,19 @@ static double mean, least, peer_mean, peer_least;
 #define MASK mask, w * h
 #define WORK work, HAZE_WORK(w, h)
 
-static int lib_light(void) { return haze_light(w, h, &k, MASK, frame, FRAME, WORK, &a); }
-static int own_light(void) { return peer_light(W32, &k, MASK, peer_frame, FRAME, &peer_a, scratch); }
+static int lib_light(void) { return haze_light(w, h, &k, MASK, frame, FRAME, WORK, &a, &comparisons); }
+static int own_light(void) { return peer_light(W32, &k, MASK, peer_frame, FRAME, &peer_a, &peer_taken, scratch); }
 
-static int lib_clear(void) { return haze_clear(w, h, &k, &a, MASK, frame, FRAME, map, w * h, picture, FRAME, WORK); }
-static int own_clear(void) { return peer_clear(W32, &k, &peer_a, MASK, peer_frame, FRAME, peer_map, w * h, peer_picture, FRAME, scratch); }
+static int lib_clear(void) { return haze_clear(w, h, &k, &a, MASK, frame, FRAME, map, w * h, picture, FRAME, WORK, &comparisons); }
+static int own_clear(void) { return peer_clear(W32, &k, &peer_a, MASK, peer_frame, FRAME, peer_map, w * h, peer_picture, FRAME, &peer_taken, scratch); }
 
 static int lib_replace(void)
 {
-    return haze_replace(w, h, &k, &a, &rect, pixels, sizeof pixels, MASK, frame, FRAME, map, w * h, picture, FRAME, WORK);
+    return haze_replace(w, h, &k, &a, &rect, pixels, sizeof pixels, MASK, frame, FRAME, map, w * h, picture, FRAME, WORK, &comparisons);
 }
 static int own_replace(void)
 {
-    return peer_replace(W32, &k, &peer_a, &rect, pixels, sizeof pixels, MASK, peer_frame, FRAME, peer_map, w * h, peer_picture, FRAME, scratch);
+    return peer_replace(W32, &k, &peer_a, &rect, pixels, sizeof pixels, MASK, peer_frame, FRAME, peer_map, w * h, peer_picture, FRAME, &peer_taken, scratch);
 }
 
 static int lib_add(void) { return haze_add(w, h, &a.light, picture, FRAME, map, w * h, hazy, FRAME); }
@@ -60,11 +61,11 @@ __typeof__(haze_light) dry_haze_light;
 __typeof__(haze_clear) dry_haze_clear;
 __typeof__(haze_replace) dry_haze_replace;
 
-static int dry_light(void) { return dry_haze_light(w, h, &k, MASK, frame, FRAME, WORK, &a); }
-static int dry_clear(void) { return dry_haze_clear(w, h, &k, &a, MASK, frame, FRAME, map, w * h, picture, FRAME, WORK); }
+static int dry_light(void) { return dry_haze_light(w, h, &k, MASK, frame, FRAME, WORK, &a, &comparisons); }
+static int dry_clear(void) { return dry_haze_clear(w, h, &k, &a, MASK, frame, FRAME, map, w * h, picture, FRAME, WORK, &comparisons); }
 static int dry_replace(void)
 {
-    return dry_haze_replace(w, h, &k, &a, &rect, pixels, sizeof pixels, MASK, frame, FRAME, map, w * h, picture, FRAME, WORK);
+    return dry_haze_replace(w, h, &k, &a, &rect, pixels, sizeof pixels, MASK, frame, FRAME, map, w * h, picture, FRAME, WORK, &comparisons);
 }
 #endif
 
@@ -92,7 +93,7 @@ static void equal(void)
 {
     if (memcmp(&a, &peer_a, sizeof a) || memcmp(frame, peer_frame, FRAME) || memcmp(map, peer_map, 2 * w * h) || memcmp(picture, peer_picture, FRAME)
         || memcmp(hazy, peer_hazy, FRAME) || memcmp(&mean, &peer_mean, 8) || memcmp(&least, &peer_least, 8)
-        || memcmp(depths, peer_depths_of, 2 * w * h))
+        || memcmp(depths, peer_depths_of, 2 * w * h) || comparisons != peer_taken)
         stop("library and peer differ");
 }
 

@@ -12,11 +12,12 @@ extern "C" {
 /* Every function by its address, under the type that a caller may count on. */
 struct functions {
     uint8_t (*light)(uint64_t, uint64_t, const struct haze_settings *, const uint8_t *, size_t, const uint8_t *, size_t, int64_t *, size_t,
-                     struct haze_lights *);
+                     struct haze_lights *, uint64_t *);
     uint8_t (*clear)(uint64_t, uint64_t, const struct haze_settings *, const struct haze_lights *, const uint8_t *, size_t, const uint8_t *, size_t, uint16_t *,
-                     size_t, uint8_t *, size_t, int64_t *, size_t);
+                     size_t, uint8_t *, size_t, int64_t *, size_t, uint64_t *);
     uint8_t (*replace)(uint64_t, uint64_t, const struct haze_settings *, const struct haze_lights *, const struct haze_rect *, const uint8_t *, size_t,
-                       const uint8_t *, size_t, uint8_t *, size_t, uint16_t *, size_t, uint8_t *, size_t, int64_t *, size_t);
+                       const uint8_t *, size_t, uint8_t *, size_t, uint16_t *, size_t, uint8_t *, size_t, int64_t *, size_t, uint64_t *);
+    uint64_t (*comparisons)(uint64_t, uint64_t, uint64_t);
     uint8_t (*add)(uint64_t, uint64_t, const struct haze_rgb *, const uint8_t *, size_t, const uint16_t *, size_t, uint8_t *, size_t);
     uint8_t (*band)(uint64_t, uint64_t, const uint16_t *, size_t, uint64_t, uint64_t, double *, double *);
     uint8_t (*depths)(uint64_t, uint64_t, const uint16_t *, size_t, uint16_t *, size_t);
@@ -28,8 +29,9 @@ struct functions {
     const char *(*words)(uint8_t);
 };
 extern const struct functions functions;
-const struct functions functions = {haze_light,    haze_clear,    haze_replace,    haze_add,       haze_band,       haze_depths,
-                                    haze_ppm_size, haze_ppm_read, haze_ppm_length, haze_ppm_write, haze_pnm_header, haze_words};
+const struct functions functions = {haze_light,  haze_clear,    haze_replace,  haze_comparisons, haze_add,       haze_band,
+                                    haze_depths, haze_ppm_size, haze_ppm_read, haze_ppm_length,  haze_ppm_write, haze_pnm_header,
+                                    haze_words};
 
 #ifdef __cplusplus
 }
@@ -62,12 +64,14 @@ static uint8_t picture_cleared(uint8_t *frame, uint8_t *picture)
     struct haze_lights lights = {{0, 0, 0}};
     struct haze_rect rect = {0, 0, W, H};
     uint16_t map[W * H] = {0, 0}, depths[W * H] = {0, 0};
-    uint8_t answer = haze_light(W, H, &settings, mask, W * H, frame, 3 * W * H, work, HAZE_WORK(W, H), &lights);
+    uint64_t comparisons = 0;
+    uint8_t answer = haze_light(W, H, &settings, mask, W * H, frame, 3 * W * H, work, HAZE_WORK(W, H), &lights, &comparisons);
     if (answer == HAZE_DONE) {
         lights.light = grey;
         answer = haze_replace(W, H, &settings, &lights, &rect, pixels, 3 * W * H, mask, W * H, frame, 3 * W * H, map, W * H, picture, 3 * W * H, work,
-                              sizeof work / sizeof work[0]);
+                              sizeof work / sizeof work[0], &comparisons);
     }
+    if (comparisons != haze_comparisons(W, H, settings.s)) answer = HAZE_BAD_SETTING;
     if (answer == HAZE_DONE) answer = haze_depths(W, H, map, W * H, depths, W * H);
     if (depths[0] > HAZE_DEEPEST) answer = HAZE_BAD_ENTRY;
     if (answer == HAZE_NOTHING_SEEN) answer = HAZE_BAD_BUFFER;

@@ -166,6 +166,36 @@ static void part_min(uint16_t *v, uint16_t *t, int W, part p, int s)
 #undef T
 }
 
+/* ------------------------------------------------------------------ comparisons */
+
+/* What the block method takes for a line of n, border by border. With no border it is 2 for each sample but the first. At a border a sample
+ * becomes the first of its block, and the windows across it, from s before it to s behind it or to the line's end, take 1 each. */
+static uint64_t line_comparisons(int n, int s)
+{
+    int count = 2 * (n - 1), border;
+    for (border = 2 * s + 1; border < n; border += 2 * s + 1) count += imin(n, border + s) - (border - s) - 2;
+    return (uint64_t)count;
+}
+
+/* The rows above here go by doubling; what is counted is the block method, in both directions. */
+static uint64_t part_comparisons(part p, int s)
+{
+    int w = p.x1 - p.x0, h = p.y1 - p.y0;
+    return (uint64_t)h * line_comparisons(w, s) + (uint64_t)w * line_comparisons(h, s);
+}
+
+static part whole(uint32_t W, uint32_t H)
+{
+    part all;
+    all.x0 = all.y0 = 0; all.x1 = (int)W; all.y1 = (int)H;
+    return all;
+}
+
+uint64_t peer_comparisons(uint32_t W, uint32_t H, uint64_t s)
+{
+    return bad_size(W, H) || s > 30 ? 0 : part_comparisons(whole(W, H), (int)s);
+}
+
 /* ------------------------------------------------------------------ light */
 
 /* The least channel of each pixel. */
@@ -215,17 +245,16 @@ static size_t brightest(const uint16_t *mn, const uint8_t *mask, const uint8_t *
 }
 
 int peer_light(uint32_t W, uint32_t H, const struct haze_settings *st, const uint8_t *mask, size_t mask_len,
-               const uint8_t *frame, size_t frame_len, struct haze_lights *lights, void *scratch)
+               const uint8_t *frame, size_t frame_len, struct haze_lights *lights, uint64_t *comparisons, void *scratch)
 {
     size_t n, m, seen;
     planes p;
-    part all;
+    part all = whole(W, H);
     if (bad_size(W, H)) return 1;
     if (bad_settings(st)) return 2;
     n = (size_t)W * H;
     if (frame_len != 3 * n) return 3;
     if (mask_len != n) return 4;
-    all.x0 = all.y0 = 0; all.x1 = (int)W; all.y1 = (int)H;
     mask = hiding(mask, (int)W, all);
     seen = mask ? seen_of(mask, n) : n;
     if (!seen) return 14;
@@ -239,6 +268,7 @@ int peer_light(uint32_t W, uint32_t H, const struct haze_settings *st, const uin
     lights->light.red = (uint8_t)imax(frame[0], 1);
     lights->light.green = (uint8_t)imax(frame[1], 1);
     lights->light.blue = (uint8_t)imax(frame[2], 1);
+    *comparisons = part_comparisons(all, (int)st->s);
     return 0;
 }
 
@@ -490,8 +520,9 @@ static void ratios(uint16_t table[256], int a)
     for (i = 0; i < 256; i++) table[i] = (uint16_t)imin(10000 * i / a, 10000);
 }
 
-static void clear_part(int W, int H, const struct haze_settings *st, const uint8_t *mask, const uint8_t *frame,
-                       const struct haze_rgb *light, part out, uint16_t *map, uint8_t *pic, void *scratch)
+/* Answers the comparisons of the part that the ratios' minimum goes over. */
+static uint64_t clear_part(int W, int H, const struct haze_settings *st, const uint8_t *mask, const uint8_t *frame,
+                           const struct haze_rgb *light, part out, uint16_t *map, uint8_t *pic, void *scratch)
 {
     planes p = cut(scratch, (size_t)W * H);
     int s = (int)st->s, r = (int)st->r, x, y;
@@ -524,6 +555,7 @@ static void clear_part(int W, int H, const struct haze_settings *st, const uint8
     }
     slopes(&p, mask, W, H, slope, coarse, r, (int64_t)st->e);
     refine(&p, mask, W, H, out, slope, r, frame, light, (int)st->t0, map, pic);
+    return part_comparisons(ratio, s);
 }
 
 static int clear_refused(uint32_t W, uint32_t H, const struct haze_settings *st, size_t mask_len, size_t frame_len,
@@ -541,20 +573,18 @@ static int clear_refused(uint32_t W, uint32_t H, const struct haze_settings *st,
 
 int peer_clear(uint32_t W, uint32_t H, const struct haze_settings *st, const struct haze_lights *lights,
                const uint8_t *mask, size_t mask_len, const uint8_t *frame, size_t frame_len,
-               uint16_t *map, size_t map_len, uint8_t *pic, size_t pic_len, void *scratch)
+               uint16_t *map, size_t map_len, uint8_t *pic, size_t pic_len, uint64_t *comparisons, void *scratch)
 {
-    part all;
     int no = clear_refused(W, H, st, mask_len, frame_len, &lights->light, map_len, pic_len);
     if (no) return no;
-    all.x0 = all.y0 = 0; all.x1 = (int)W; all.y1 = (int)H;
-    clear_part((int)W, (int)H, st, mask, frame, &lights->light, all, map, pic, scratch);
+    *comparisons = clear_part((int)W, (int)H, st, mask, frame, &lights->light, whole(W, H), map, pic, scratch);
     return 0;
 }
 
 int peer_replace(uint32_t W, uint32_t H, const struct haze_settings *st, const struct haze_lights *lights,
                  const struct haze_rect *rect, const uint8_t *px, size_t px_len,
                  const uint8_t *mask, size_t mask_len, uint8_t *frame, size_t frame_len,
-                 uint16_t *map, size_t map_len, uint8_t *pic, size_t pic_len, void *scratch)
+                 uint16_t *map, size_t map_len, uint8_t *pic, size_t pic_len, uint64_t *comparisons, void *scratch)
 {
     uint64_t x = rect->column, y = rect->row, w = rect->width, h = rect->height, j;
     part c;
@@ -564,8 +594,8 @@ int peer_replace(uint32_t W, uint32_t H, const struct haze_settings *st, const s
     if (px_len != 3 * w * h) return 7;
     for (j = 0; j < h; j++) memcpy(frame + 3 * ((y + j) * W + x), px + 3 * j * w, 3 * w);
     c.x0 = (int)x; c.x1 = (int)(x + w); c.y0 = (int)y; c.y1 = (int)(y + h);
-    clear_part((int)W, (int)H, st, mask, frame, &lights->light,
-               grown(c, (int)(st->s + 2 * st->r), (int)W, (int)H), map, pic, scratch);
+    *comparisons = clear_part((int)W, (int)H, st, mask, frame, &lights->light,
+                              grown(c, (int)(st->s + 2 * st->r), (int)W, (int)H), map, pic, scratch);
     return 0;
 }
 

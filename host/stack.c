@@ -15,15 +15,21 @@ static struct haze_rect rect = {0, 0, 1, 1};
 static uint8_t mask[MAX_PIXELS], frame[3 * MAX_PIXELS], picture[3 * MAX_PIXELS], hazy[3 * MAX_PIXELS], pixels[3];
 static uint16_t map[MAX_PIXELS], depths[MAX_PIXELS];
 static int64_t work[8 * (MAX_PIXELS + 1024 + 256 + 1)];
+static uint64_t comparisons;
 static double mean, least;
 
 static int nothing(void) { return 0; }
-static int light(void) { return haze_light(w, h, &k, mask, w * h, frame, 3 * w * h, work, HAZE_WORK(w, h), &a); }
-static int clear(void) { return haze_clear(w, h, &k, &a, mask, w * h, frame, 3 * w * h, map, w * h, picture, 3 * w * h, work, HAZE_WORK(w, h)); }
+static int light(void) { return haze_light(w, h, &k, mask, w * h, frame, 3 * w * h, work, HAZE_WORK(w, h), &a, &comparisons); }
+static int clear(void)
+{
+    return haze_clear(w, h, &k, &a, mask, w * h, frame, 3 * w * h, map, w * h, picture, 3 * w * h, work, HAZE_WORK(w, h), &comparisons);
+}
 static int replace(void)
 {
-    return haze_replace(w, h, &k, &a, &rect, pixels, sizeof pixels, mask, w * h, frame, 3 * w * h, map, w * h, picture, 3 * w * h, work, HAZE_WORK(w, h));
+    return haze_replace(w, h, &k, &a, &rect, pixels, sizeof pixels, mask, w * h, frame, 3 * w * h, map, w * h, picture, 3 * w * h, work, HAZE_WORK(w, h),
+                        &comparisons);
 }
+static int budget(void) { return comparisons = haze_comparisons(w, h, k.s), w * h > 1 && !comparisons; }
 static int add(void) { return haze_add(w, h, &a.light, frame, 3 * w * h, map, w * h, hazy, 3 * w * h); }
 static int band(void) { return haze_band(w, h, map, w * h, 0, h, &mean, &least); }
 static int depth(void) { return haze_depths(w, h, map, w * h, depths, w * h); }
@@ -83,6 +89,7 @@ int main(void)
     int wrong = measure("light", light);
     wrong |= measure("clear", clear);
     wrong |= measure("replace", replace);
+    wrong |= measure("budget", budget);
     wrong |= measure("add", add);
     wrong |= measure("band", band);
     wrong |= measure("depths", depth);

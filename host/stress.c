@@ -14,13 +14,15 @@
 
 static _Alignas(64) uint8_t frame_room[ROOM(3 * MAX_PIXELS + 8)], map_room[ROOM(2 * MAX_PIXELS + 8)], picture_room[ROOM(3 * MAX_PIXELS + 8)],
     mask_room[ROOM(MAX_PIXELS + 8)], pixels_room[ROOM(3 * MAX_PIXELS + 8)], work_room[ROOM(8 * WORK_MOST)], light_room[ROOM(3)],
-    mean_room[ROOM(8)], least_room[ROOM(8)];
+    comparisons_room[ROOM(8)], mean_room[ROOM(8)], least_room[ROOM(8)];
 
 static loan frame_loan = {"frame", frame_room, 0, 1, 0, 0}, map_loan = {"map", map_room, 0, 2, 0, 0}, picture_loan = {"picture", picture_room, 0, 1, 0, 0},
     mask_loan = {"mask", mask_room, 0, 1, 0, 0}, pixels_loan = {"new pixels", pixels_room, 0, 1, 0, 0}, work_loan = {"work area", work_room, 0, 8, 0, 0},
-    light_loan = {"light", light_room, 0, 1, 0, 0}, mean_loan = {"mean", mean_room, 0, 8, 0, 0}, least_loan = {"least", least_room, 0, 8, 0, 0};
+    light_loan = {"light", light_room, 0, 1, 0, 0}, comparisons_loan = {"comparisons", comparisons_room, 0, 8, 0, 0},
+    mean_loan = {"mean", mean_room, 0, 8, 0, 0}, least_loan = {"least", least_room, 0, 8, 0, 0};
 
-static loan *const loans[] = {&frame_loan, &map_loan, &picture_loan, &mask_loan, &pixels_loan, &work_loan, &light_loan, &mean_loan, &least_loan};
+static loan *const loans[] = {&frame_loan,  &map_loan,   &picture_loan,     &mask_loan, &pixels_loan,
+                              &work_loan,   &light_loan, &comparisons_loan, &mean_loan, &least_loan};
 #define LOANS (sizeof loans / sizeof *loans)
 
 static void fill(uint8_t *at, size_t n, uint64_t seed)
@@ -226,17 +228,20 @@ static void kept_copies(void)
 static uint8_t light(void)
 {
     struct haze_lights want, *place = lend(&light_loan, sizeof *place);
+    uint64_t count, *comparisons = lend(&comparisons_loan, 1);
     uint8_t got;
     begin("light");
     kept_copies();
-    got = haze_light(SIZE, &now.k, WHOLE(mask_loan), WHOLE(frame_loan), WHOLE(work_loan), place);
+    got = haze_light(SIZE, &now.k, WHOLE(mask_loan), WHOLE(frame_loan), WHOLE(work_loan), place, comparisons);
     same_number(got, (uint64_t)refused_light());
     if (got) {
         as_it_was(&light_loan, 0);
+        as_it_was(&comparisons_loan, 0);
         as_it_was(&work_loan, 0);
     } else {
-        same_number(0, (uint64_t)peer_light(SIZE32, &now.k, mask_copy, mask_loan.bytes, frame_copy, frame_loan.bytes, &want, scratch));
+        same_number(0, (uint64_t)peer_light(SIZE32, &now.k, mask_copy, mask_loan.bytes, frame_copy, frame_loan.bytes, &want, &count, scratch));
         same_bytes(&light_loan, (uint8_t *)&want);
+        same_bytes(&comparisons_loan, (uint8_t *)&count);
         wiped();
     }
     same_bytes(&mask_loan, mask_copy);
@@ -247,15 +252,19 @@ static uint8_t light(void)
 
 static uint8_t clear(void)
 {
+    uint64_t count, *comparisons = lend(&comparisons_loan, 1);
     uint8_t got;
     begin("clear");
     kept_copies();
-    got = haze_clear(SIZE, &now.k, &now.a, WHOLE(mask_loan), WHOLE(frame_loan), WHOLE(map_loan), WHOLE(picture_loan), WHOLE(work_loan));
+    got = haze_clear(SIZE, &now.k, &now.a, WHOLE(mask_loan), WHOLE(frame_loan), WHOLE(map_loan), WHOLE(picture_loan), WHOLE(work_loan), comparisons);
     same_number(got, (uint64_t)refused_clear());
-    if (got) as_it_was(&work_loan, 0);
-    else {
+    if (got) {
+        as_it_was(&comparisons_loan, 0);
+        as_it_was(&work_loan, 0);
+    } else {
         same_number(0, (uint64_t)peer_clear(SIZE32, &now.k, &now.a, mask_copy, mask_loan.bytes, frame_copy, frame_loan.bytes, map_copy, entries(&map_loan),
-                                            picture_copy, picture_loan.bytes, scratch));
+                                            picture_copy, picture_loan.bytes, &count, scratch));
+        same_bytes(&comparisons_loan, (uint8_t *)&count);
         wiped();
     }
     same_bytes(&mask_loan, mask_copy);
@@ -268,17 +277,21 @@ static uint8_t clear(void)
 
 static uint8_t replace(void)
 {
+    uint64_t count, *comparisons = lend(&comparisons_loan, 1);
     uint8_t got;
     begin("replace");
     kept_copies();
     memcpy(pixels_copy, lent(&pixels_loan), pixels_loan.bytes);
     got = haze_replace(SIZE, &now.k, &now.a, &now.rect, WHOLE(pixels_loan), WHOLE(mask_loan), WHOLE(frame_loan), WHOLE(map_loan), WHOLE(picture_loan),
-                       WHOLE(work_loan));
+                       WHOLE(work_loan), comparisons);
     same_number(got, (uint64_t)refused_replace());
-    if (got) as_it_was(&work_loan, 0);
-    else {
+    if (got) {
+        as_it_was(&comparisons_loan, 0);
+        as_it_was(&work_loan, 0);
+    } else {
         same_number(0, (uint64_t)peer_replace(SIZE32, &now.k, &now.a, &now.rect, pixels_copy, pixels_loan.bytes, mask_copy, mask_loan.bytes, frame_copy,
-                                              frame_loan.bytes, map_copy, entries(&map_loan), picture_copy, picture_loan.bytes, scratch));
+                                              frame_loan.bytes, map_copy, entries(&map_loan), picture_copy, picture_loan.bytes, &count, scratch));
+        same_bytes(&comparisons_loan, (uint8_t *)&count);
         wiped();
     }
     same_bytes(&pixels_loan, pixels_copy);
@@ -324,6 +337,17 @@ static uint8_t band(void)
         same_bytes(&least_loan, (uint8_t *)(want + 1));
     }
     same_bytes(&map_loan, (uint8_t *)map_copy);
+    guards();
+    return got;
+}
+
+/* The number of a size and a radius, good or bad. */
+static uint64_t comparisons(void)
+{
+    uint64_t got, want = bad_size() || outside(now.k.s, 0, 30) ? 0 : peer_comparisons(SIZE32, now.k.s);
+    begin("comparisons");
+    got = haze_comparisons(SIZE, now.k.s);
+    if (got != want) differ("the number", 0, got, want);
     guards();
     return got;
 }
@@ -604,6 +628,34 @@ static void figures(void)
     same_number(light(), 2);
 }
 
+/* ---- comparisons that are known: 512 samples are 34 blocks of 15 and 2 samples, so 2*(512 - 35) within the blocks, and 33*14 + 9 windows across a border */
+
+static void comparisons_at(uint64_t w, uint64_t h, uint64_t s, uint64_t want)
+{
+    now.w = w;
+    now.h = h;
+    now.k.s = s;
+    if (comparisons() != want) differ("a known number", 0, comparisons(), want);
+}
+
+static void comparison_figures(void)
+{
+    comparisons_at(512, 512, 7, 1024 * (2 * (512 - 35) + 33 * 14 + 9));
+    comparisons_at(2, 1, 1, 2);
+    comparisons_at(4, 1, 1, 6);
+    comparisons_at(1, 6, 2, 11);
+    comparisons_at(1, 1, 30, 0);
+    comparisons_at(1024, 256, 0, 0);
+    comparisons_at(0, 7, 7, 0);
+    comparisons_at(7, 0, 7, 0);
+    comparisons_at(1025, 1, 7, 0);
+    comparisons_at(1, 1025, 7, 0);
+    comparisons_at(513, 512, 7, 0);
+    comparisons_at(4294967296u, 4294967296u, 7, 0);
+    comparisons_at(512, 512, 31, 0);
+    comparisons_at(512, 512, 18446744073709551615u, 0);
+}
+
 /* ---- the mask's refusals, one by one: a length that is wrong is 4 in each of the three; with nothing seen Light is 14, after 4, and the others are taken */
 
 static void mask_figures(void)
@@ -649,6 +701,16 @@ static void replaces(int how) { good_to_write(how); same_number(replace(), 0); }
 static void adds(int how) { good(how); same_number(add(), 0); }
 static void bands(int how) { good(how); same_number(band(), 0); }
 
+static void budgets(int how)
+{
+    good_size(how);
+    good_settings();
+    if (one_in(6)) now.w = other(now.w);
+    if (one_in(6)) now.h = other(now.h);
+    if (one_in(6)) now.k.s = one_in(2) ? 31 : other(now.k.s);
+    comparisons();
+}
+
 int main(int count, char **words)
 {
     int t = count > 1 ? atoi(words[1]) : 1, k;
@@ -656,6 +718,7 @@ int main(int count, char **words)
     drawn = mixed(seed);
     figures();
     mask_figures();
+    comparison_figures();
     printf("%-8s %7llu calls agree\n", "figures", (unsigned long long)calls);
     group("light", lights, 300 * t, 20 * t, 10 * t, 4 * t);
     group("clear", clears, 300 * t, 20 * t, 10 * t, 4 * t);
@@ -663,6 +726,7 @@ int main(int count, char **words)
     group("replace", replaces, 600 * t, 40 * t, 20 * t, 8 * t);
     group("add", adds, 300 * t, 20 * t, 10 * t, 4 * t);
     group("band", bands, 300 * t, 20 * t, 10 * t, 4 * t);
+    group("budget", budgets, 600 * t, 300 * t, 300 * t, 300 * t);
     group("runs", run, 100 * t, 10 * t, 6 * t, 2 * t);
     group("bad", bad, 4000 * t, 40 * t, 20 * t, 8 * t);
     printf("answers ");

@@ -1,16 +1,20 @@
-/* Haze: the light of a hazy frame, the frame cleared of its haze, a part of it replaced, haze added, what a band of rows lets through, relative depth, and
- * frames read from PPM files and written to them.
+/* Haze: the light of a hazy frame, the frame cleared of its haze, a part of it replaced, haze added, what a band of rows lets through, how many comparisons
+ * a frame takes, relative depth, and frames read from PPM files and written to them.
  *
  * A frame is w columns by h rows, row after row from the top, each pixel red, green and blue, one byte each: 3*w*h bytes.
  * A map has one entry a pixel, in ten-thousandths: 10000 is transmission 1.
  * A mask has one byte a pixel, w*h bytes, row after row from the top: 0 hides the pixel, any other byte shows it. A hidden pixel enters nothing: no window, no
- * sum, no count, and it never gives the light. Its own map entry is 10000, and its colour in the picture is the frame's. Under a mask that shows every pixel
- * nothing is hidden. The mask is lent for reading; through a run of haze_clear and haze_replace it stays the same, as size and settings do.
+ * sum, no number of pixels, and it never gives the light. Its own map entry is 10000, and its colour in the picture is the frame's. Under a mask that shows
+ * every pixel nothing is hidden. The mask is lent for reading; through a run of haze_clear and haze_replace it stays the same, as size and settings do.
+ * Comparisons are those of the least value over windows of radius s, the dark channel, by the method of blocks: over all rows, then over all columns. A line is
+ * cut into blocks of 2s + 1 samples from its first, the last perhaps shorter. A block of k takes 2*(k - 1), and each window, cut off at the line's ends, that
+ * reaches into two blocks takes 1 more: at most 3 a sample, so at most 6 a pixel. A hidden pixel counts like any other; those among a pixel's three channels
+ * are not in it. So the number depends on w, h and s alone, in haze_replace on r and the rectangle too.
  * The work area is lent by the caller: HAZE_WORK(w, h) entries or more. Nothing is allocated and nothing is kept between two calls.
  *
  * Every function is proved to end, on every input, with the answer and the buffers that are said here. It returns 0, or the first number
- * of those that it checks, in their order, that applies; haze_ppm_length alone returns a length. When it returns a number other than 0, all that it was lent
- * holds what it held: buffers, work area and the places for results.
+ * of those that it checks, in their order, that applies; haze_ppm_length and haze_comparisons alone return another number, and refuse nothing. When it returns
+ * a number other than 0, all that it was lent holds what it held: buffers, work area and the places for results.
  * After a call that returns 0 the first HAZE_WORK(w, h) entries of the work area are 0, and the rest is untouched. What it held before means nothing.
  *
  * What the caller must keep, since no function can see it:
@@ -25,7 +29,7 @@
 #define HAZE_H
 
 /* The version of tool, library and header; while its first number is 0, a change of the second may change the C interface. */
-#define HAZE_VERSION "0.2.0"
+#define HAZE_VERSION "0.3.0"
 
 #include <stddef.h>
 #include <stdint.h>
@@ -139,23 +143,30 @@ HAZE_ARRAY(rect, 4, uint64_t);
 #undef HAZE_ARRAY
 
 /* Light: finds the ambient light of a frame, among the pixels that the mask shows. Checks 1, 2, 3, 4 (of the mask's length too), 14. The light's channels,
- * each at least 1, go to lights->light. */
+ * each at least 1, go to lights->light, the comparisons of the frame to *comparisons. */
 uint8_t haze_light(uint64_t w, uint64_t h, const struct haze_settings *settings, const uint8_t *mask, size_t mask_len,
-                   const uint8_t *frame, size_t frame_len, int64_t *work, size_t work_len, struct haze_lights *lights);
+                   const uint8_t *frame, size_t frame_len, int64_t *work, size_t work_len, struct haze_lights *lights, uint64_t *comparisons);
 
 /* Clear: the transmission map and the cleared picture of a frame under a light and a mask. Checks 1 to 5 (4 of the mask's length too). A mask that shows
- * no pixel is taken: the map is then 10000 everywhere, and the picture a copy of the frame. */
+ * no pixel is taken: the map is then 10000 everywhere, and the picture a copy of the frame. The comparisons of the frame go to *comparisons; haze_light says
+ * the same number. */
 uint8_t haze_clear(uint64_t w, uint64_t h, const struct haze_settings *settings, const struct haze_lights *lights, const uint8_t *mask, size_t mask_len,
                    const uint8_t *frame, size_t frame_len, uint16_t *map, size_t map_len, uint8_t *picture, size_t picture_len,
-                   int64_t *work, size_t work_len);
+                   int64_t *work, size_t work_len, uint64_t *comparisons);
 
 /* Replace: the new pixels, row after row, go into the frame at the rectangle, at hidden places too. Map entries and picture pixels at most s + 2r rows and
  * columns from it become those that haze_clear gives for the new frame; all others stay, hidden ones too. Checks 1 to 7 (4 of the mask's length too).
  * After an accepted haze_clear and any calls of haze_replace, accepted and refused, with the same size, settings, light and mask, map and picture are those of
- * a haze_clear of the frame as it then is. */
+ * a haze_clear of the frame as it then is.
+ * The comparisons that go to *comparisons are of the part of the frame at most 2s + 4r rows and columns from the rectangle, as of a frame of its own: blocks
+ * begin at its first column and row, and windows are cut off at its edges. */
 uint8_t haze_replace(uint64_t w, uint64_t h, const struct haze_settings *settings, const struct haze_lights *lights, const struct haze_rect *rect,
                      const uint8_t *pixels, size_t pixels_len, const uint8_t *mask, size_t mask_len, uint8_t *frame, size_t frame_len,
-                     uint16_t *map, size_t map_len, uint8_t *picture, size_t picture_len, int64_t *work, size_t work_len);
+                     uint16_t *map, size_t map_len, uint8_t *picture, size_t picture_len, int64_t *work, size_t work_len, uint64_t *comparisons);
+
+/* Comparisons: how many haze_light and haze_clear say for a frame of this size at radius s, known before there is one; 0 for a size or a radius that is
+ * refused. One pixel takes none, and neither does radius 0. */
+uint64_t haze_comparisons(uint64_t w, uint64_t h, uint64_t s);
 
 /* Haze: the hazy frame that a clean one gives under a light at the transmissions of a map. Checks 1, 3, 4, 5, 8. */
 uint8_t haze_add(uint64_t w, uint64_t h, const struct haze_rgb *light, const uint8_t *clean, size_t clean_len,

@@ -14,6 +14,7 @@ import copy
 import random
 
 import rules
+from counttest import uncounted
 
 SEEN_BYTES = (1, 2, 128, 255)
 PLAIN = (0, 0, 9500, 59, 1000, 1)
@@ -25,22 +26,22 @@ def count_of(size):
 
 
 # ---------------------------------------------------------------------------
-# Calls with all buffers of the right length
+# Calls with all buffers of the right length, the answers without their counts
 # ---------------------------------------------------------------------------
 
 def light_of(size, settings, mask, frame):
-    return rules.light(size, settings, mask, frame, rules.work_needed(size))
+    return uncounted(rules.light(size, settings, mask, frame, rules.work_needed(size)))
 
 
 def clear_of(size, settings, light, mask, frame):
     count = count_of(size)
-    return rules.clear(size, settings, light, mask, frame, count, 3 * count,
-                       rules.work_needed(size))
+    return uncounted(rules.clear(size, settings, light, mask, frame, count, 3 * count,
+                                 rules.work_needed(size)))
 
 
 def replace_of(size, settings, light, rect, new, mask, frame, map, picture):
-    return rules.replace(size, settings, light, rect, new, mask, frame, map, picture,
-                         rules.work_needed(size))
+    return uncounted(rules.replace(size, settings, light, rect, new, mask, frame, map, picture,
+                                   rules.work_needed(size)))
 
 
 # ---------------------------------------------------------------------------

@@ -3,18 +3,20 @@
 This file holds the five operations Light, Clear, Replace, Haze and Band
 figure, with their refusals.  It follows document 01 heading by heading, with
 the paper's words as names and its step numbers in the comments.  The recovery
-rounds as request Two of document 02 says, and the mask is that of its request
-Three.
+rounds as request Two of document 02 says, the mask is that of its request
+Three, and the comparisons are those of its request Six.  The budget of a frame
+is a sixth operation.
 
 What every operation returns is a pair (number, values):
     accepted   (0, values)
     refused    (number, None), the number from the table of refusals
 The values of an accepted call:
-    light      (R, G, B)
-    clear      (map, picture)
-    replace    (frame, map, picture)
+    light      ((R, G, B), comparisons)
+    clear      ((map, picture), comparisons)
+    replace    ((frame, map, picture), comparisons)
     haze       the hazed frame
     band       (mean, least), two floats
+The budget refuses nothing and returns a number alone.
 No list that is given is ever changed.  The answers are new lists.
 
 What is given:
@@ -39,6 +41,7 @@ on exact fractions.  It is slow and shares no function with the first path.
 """
 
 from fractions import Fraction
+from functools import cache
 from math import ceil, floor, inf
 
 
@@ -216,6 +219,52 @@ def pixels(frame):
 
 
 # ---------------------------------------------------------------------------
+# Comparisons
+# ---------------------------------------------------------------------------
+
+def blocks_of(n, s):
+    """The places of a line of n samples in blocks of 2s+1, the last perhaps shorter."""
+    places = list(range(n))
+    return [places[first:first + 2 * s + 1] for first in range(0, n, 2 * s + 1)]
+
+
+@cache
+def line_comparisons(n, s):
+    """What the block method takes for the minimum over one line, walked block by block and window by window."""
+    blocks = blocks_of(n, s)
+    # A block of k takes 2*(k - 1).
+    taken = sum(2 * (len(block) - 1) for block in blocks)
+    # Each window that reaches into two blocks takes 1 more.
+    block_of = {place: number for number, block in enumerate(blocks) for place in block}
+    for i in range(n):
+        window = range(max(0, i - s), min(n, i + s + 1))
+        if len({block_of[place] for place in window}) == 2:
+            taken += 1
+    return taken
+
+
+def frame_comparisons(size, s):
+    """The total over all rows, then all columns."""
+    W, H = size
+    return sum(line_comparisons(W, s) for row in range(H)) + sum(line_comparisons(H, s) for column in range(W))
+
+
+def part_around(size, rect, reach):
+    """Columns and rows of the part of the frame at most reach columns and rows from the rectangle."""
+    W, H = size
+    column, row, width, height = rect
+    return (len([x for x in range(W) if column - reach <= x < column + width + reach]),
+            len([y for y in range(H) if row - reach <= y < row + height + reach]))
+
+
+def budget(size, s):
+    """The comparisons of a whole frame at radius s; 0 for a size or a radius that is refused."""
+    if size_is_outside(size) or not within(s, SETTINGS[0]):
+        return 0
+    return frame_comparisons(size, s)
+
+
+# ---------------------------------------------------------------------------
 # From frame to light
 # ---------------------------------------------------------------------------
 
@@ -255,7 +304,7 @@ def light_by_rules(size, settings, mask, frame):
 
 
 def light(size, settings, mask, frame, work_len):
-    """Light: finds the ambient light of a frame."""
+    """Light: finds the ambient light of a frame, and says its comparisons."""
     number = lowest_that_applies({
         1: size_is_outside(size),
         2: setting_is_outside(settings),
@@ -265,7 +314,7 @@ def light(size, settings, mask, frame, work_len):
     })
     if number:
         return number, None
-    return 0, light_by_rules(size, settings, mask, frame)
+    return 0, (light_by_rules(size, settings, mask, frame), frame_comparisons(size, settings[0]))
 
 
 # ---------------------------------------------------------------------------
@@ -386,7 +435,7 @@ def clear_by_rules(size, settings, light, mask, frame):
 
 
 def clear(size, settings, light, mask, frame, map_len, picture_len, work_len):
-    """Clear: frame, its mask, light and settings in; map and cleared frame out."""
+    """Clear: frame, its mask, light and settings in; map, cleared frame and comparisons out."""
     number = lowest_that_applies({
         1: size_is_outside(size),
         2: setting_is_outside(settings),
@@ -399,7 +448,7 @@ def clear(size, settings, light, mask, frame, map_len, picture_len, work_len):
     })
     if number:
         return number, None
-    return 0, clear_by_rules(size, settings, light, mask, frame)
+    return 0, (clear_by_rules(size, settings, light, mask, frame), frame_comparisons(size, settings[0]))
 
 
 def hazed_channel(J, A, t):
@@ -471,7 +520,9 @@ def replace(size, settings, light, rect, new, mask, frame, map, picture, work_le
         if is_reached(rect, s + 2 * r, p % W, p // W):
             new_map[p] = clear_map[p]
             new_picture[3 * p:3 * p + 3] = clear_picture[3 * p:3 * p + 3]
-    return 0, (new_frame, new_map, new_picture)
+    # The part within 2s+4r is a frame of its own.
+    part = part_around(size, rect, 2 * s + 4 * r)
+    return 0, ((new_frame, new_map, new_picture), frame_comparisons(part, s))
 
 
 def band(size, map, start, end):

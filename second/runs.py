@@ -1,4 +1,4 @@
-"""The runs of the five calls: what the program `runcalls` is given and must answer.
+"""The runs of the calls: what the program `runcalls` is given and must answer.
 
 Run it as:
     python3 -I runs.py --check    makes both files anew and compares them with
@@ -21,6 +21,8 @@ A command is a line of decimal numbers:
         which buffer, first entry, how many, seed, low, noise, slow, fast, spots
     7 fill the mask:
         how many, width, left, right, top, bottom, across, down, seed, keep, byte
+    8 budget of comparisons:
+        as 1 to 5, of which W, H and s count
 The answer to a call is one line: the answer itself, then for mask, frame, new
 pixels, map, picture and work area its length, of a buffer of at most 12 entries
 the entries, and a digest of all entries.  A fill answers nothing.
@@ -41,7 +43,7 @@ import rules
 
 WIDEST = 2 ** 64 - 1
 
-LIGHT, CLEAR, REPLACE, HAZE, BAND, FILL, SHOW = range(1, 8)
+LIGHT, CLEAR, REPLACE, HAZE, BAND, FILL, SHOW, BUDGET = range(1, 9)
 FRAME, NEW, MAP, PICTURE, WORK, MASK = range(6)
 
 # The most that is lent: a frame of 130 by 130 with its work area, and one entry more.
@@ -154,13 +156,13 @@ class Call:
         self.light = light
         self.rect = rect or ((0, H, 0, 0) if number == BAND else (0, 0, W, H))
         self.lent = [0, 0, 0, 0, 0, 0]
-        if number != BAND:
+        if number not in (BAND, BUDGET):
             self.lent[FRAME] = 3 * W * H
-        if number != LIGHT:
+        if number not in (LIGHT, BUDGET):
             self.lent[MAP] = W * H
-        if number not in (LIGHT, BAND):
+        if number not in (LIGHT, BAND, BUDGET):
             self.lent[PICTURE] = 3 * W * H
-        if number not in (HAZE, BAND):
+        if number not in (HAZE, BAND, BUDGET):
             self.lent[WORK] = rules.work_needed(size)
             self.lent[MASK] = W * H
         if number == REPLACE:
@@ -250,10 +252,13 @@ class Run:
 def in_words(call, values):
     """What an accepted call answers."""
     if call == LIGHT:
-        return "light %d %d %d" % values
+        light, comparisons = values
+        return "light %d %d %d %d" % (*light, comparisons)
     if call == BAND:
         return "figure %d %d" % tuple(bits(value) for value in values)
-    return "done"
+    if call == BUDGET:
+        return "takes %d" % values
+    return "done" if call == HAZE else "done %d" % values[1]
 
 
 def answer(call, frame, new, map, picture, work, mask):
@@ -265,16 +270,19 @@ def answer(call, frame, new, map, picture, work, mask):
         after = lambda: (frame, new, map, picture, rules.work_after(size, work), mask)
     elif call.number == REPLACE:
         number, values = rules.replace(size, settings, light, rect, new, mask, frame, map, picture, len(work))
-        after = lambda: (values[0], new, values[1], values[2], rules.work_after(size, work), mask)
+        after = lambda: (values[0][0], new, *values[0][1:], rules.work_after(size, work), mask)
     elif call.number == HAZE:
         number, values = rules.haze(size, light, frame, map, len(picture))
         after = lambda: (frame, new, map, values, work, mask)
     elif call.number == BAND:
         number, values = rules.band(size, map, rect[0], rect[1])
         after = lambda: kept
+    elif call.number == BUDGET:
+        number, values = 0, rules.budget(size, settings[0])
+        after = lambda: kept
     else:
         number, values = rules.clear(size, settings, light, mask, frame, len(map), len(picture), len(work))
-        after = lambda: (frame, new, *values, rules.work_after(size, work), mask)
+        after = lambda: (frame, new, *values[0], rules.work_after(size, work), mask)
     return number, values, kept if number else after()
 
 
@@ -395,7 +403,7 @@ def figures(run):
     for size, settings, frame in whole:
         lend_unlike(run, size)
         run.put(FRAME, frame)
-        number, light = run.call(Call(LIGHT, size, settings))
+        number, (light, comparisons) = run.call(Call(LIGHT, size, settings))
         run.call(Call(CLEAR, size, settings, light))
     run.put(FRAME, (0, 0, 0))                                   # P8
     run.put(MAP, (5000,))
@@ -423,7 +431,7 @@ def all_calls(run, size, settings, kind, light=None):
     number, found = run.call(Call(LIGHT, size, settings))
     spoil_work(run, size)
     # Where nothing is seen, no light is found.
-    used = light or found or any_light(run)
+    used = light or (found and found[0]) or any_light(run)
     # A work area may be longer than asked for.
     run.call(Call(CLEAR, size, settings, used).but(more={WORK: run.random.choice((0, 0, 1))}))
     start = run.random.randrange(H)
@@ -488,7 +496,7 @@ def close_ratios(run):
             lend_unlike(run, size)
             run.put(FRAME, itertools.chain(*some))
             number, values = run.call(Call(CLEAR, size, (0, 0, 10000, 59, 1000, 1), light))
-            assert number == 0 and values[0] == [10000 - ratiocases.right(light, pixel) for pixel in some]
+            assert number == 0 and values[0][0] == [10000 - ratiocases.right(light, pixel) for pixel in some]
 
 
 # ---------------------------------------------------------------------------
@@ -529,7 +537,7 @@ def replacements(run, size, settings, light, rects, kind):
         assert number == 0
         number, fresh = run.call(Call(CLEAR, size, settings, light).but(first=beside))
         # The run theorem, on the second program's own side.
-        assert number == 0 and values[1:] == fresh, "a replacement is not a fresh clearing"
+        assert number == 0 and values[0][1:] == fresh[0], "a replacement is not a fresh clearing"
 
 
 def runs_of_replacements(run):
@@ -590,6 +598,71 @@ def replacements_into_anything(run):
         lend_unlike(run, size)
         run.fill(NEW, 3 * rect[2] * rect[3], noise=256)
         run.call(Call(REPLACE, size, settings, any_light(run), rect))
+
+
+# ---------------------------------------------------------------------------
+# Comparisons
+# ---------------------------------------------------------------------------
+
+def lines_and_frames(run):
+    """Lines of one row and of one column around the length of a block, and frames of such sides."""
+    sizes = []
+    for s in (0, 1, 2, 7, 30):
+        whole = 2 * s + 1
+        for n in sorted({1, max(1, 2 * s), whole, whole + 1, 2 * whole + s, 2 * whole + s + 1}):
+            sizes += [((n, 1), s), ((1, n), s)]
+    for s in (1, 2, 3):
+        whole = 2 * s + 1
+        sizes += [((whole, whole), s), ((whole + 1, whole - 1), s), ((2 * whole + s, 3 * whole + 1), s)]
+    for kind, (size, s) in enumerate(sizes):
+        settings = (s, kind % 2, *any_settings(run, 0, 0)[2:])
+        frame_of(run, size, kind)
+        mask_of(run, size, kind)
+        lend_unlike(run, size)
+        run.call(Call(LIGHT, size, settings))
+        number, values = run.call(Call(CLEAR, size, settings, any_light(run)))
+        assert number == 0 and values[1] == run.call(Call(BUDGET, size, settings))[1]
+
+
+def parts_of_frames(run):
+    """Replacements in the middle, at edges and in corners: parts that the frame cuts and that it does not cut."""
+    W, H = size = (34, 29)
+    rects = ((16, 14, 1, 1), (15, 13, 3, 2), (0, 14, 1, 1), (W - 1, 13, 1, 2), (16, 0, 2, 1), (17, H - 1, 1, 1),
+             (0, 0, 1, 1), (W - 1, 0, 1, 1), (0, H - 2, 2, 2), (W - 1, H - 1, 1, 1), (0, 12, W, 1), (11, 0, 1, H), (0, 0, W, H))
+    for kind, (s, r) in enumerate(((0, 0), (1, 0), (2, 0), (0, 1), (2, 2), (3, 1), (30, 0))):
+        settings = (s, r, *rules.DEFAULTS[2:])
+        frame_of(run, size, kind)
+        mask_of(run, size, 2 * kind + 1)
+        lend_unlike(run, size)
+        # Every third rectangle from another one on, and the middle each time.
+        for rect in (rects[0], *rects[1 + kind % 3::3]):
+            run.fill(NEW, 3 * rect[2] * rect[3], noise=256)
+            spoil_work(run, size)
+            number, values = run.call(Call(REPLACE, size, settings, any_light(run), rect))
+            assert number == 0
+
+
+def budgets(run):
+    """Whole frames without one; sizes and radii that are refused."""
+    anything = (61, 0, 0, 0, 1001)
+    sizes = ((1, 1), (2, 1), (1, 2), (640, 360), (512, 512), (1024, 256), (256, 1024), (1024, 1), (1, 1024), (61, 62), (60, 63))
+    for turn, size in enumerate(sizes):
+        for s in (0, 7, 30) if turn % 2 else (1, 30 - turn):
+            number, values = run.call(Call(BUDGET, size, (s, *rules.DEFAULTS[1:])))
+            assert (values == 0) == (s == 0 or size == (1, 1))
+    for turn, size in enumerate((*BAD_SIZES, (257, 1024), (1024, 1024))):
+        run.call(Call(BUDGET, size, ((1, 7, 30)[turn % 3], *rules.DEFAULTS[1:])))
+    for s in (31, 32, 2 ** 32, 2 ** 63, WIDEST):
+        run.call(Call(BUDGET, (640, 360), (s, *rules.DEFAULTS[1:])))
+    run.call(Call(BUDGET, (0, 1025), (31, *anything)))
+    # Nothing else counts, and nothing that is lent moves.
+    size = (3, 2)
+    lend_unlike(run, size)
+    frame_of(run, size, 0)
+    mask_of(run, size, 5)
+    lent = {FRAME: 11, NEW: 1, MAP: 6, PICTURE: 12, WORK: 12, MASK: 6}
+    for s in (0, 2, 31):
+        run.call(Call(BUDGET, size, (s, *anything), (0, 0, 0), (9, 9, 9, 9)).but(lent=lent))
 
 
 # ---------------------------------------------------------------------------
@@ -740,7 +813,8 @@ def made():
     """All commands and all answers, as the two files have them."""
     run = Run()
     for part in (figures, small_frames, refusals, ends_of_ranges, middle_frames, bands_and_hazes,
-                 replacements_into_anything, runs_of_replacements, under_the_hood, every_mask, large_frames, close_ratios):
+                 replacements_into_anything, runs_of_replacements, under_the_hood, every_mask, large_frames, close_ratios,
+                 lines_and_frames, parts_of_frames, budgets):
         part(run)
     given = "".join(line + "\n" for line in run.given)
     answered = "".join(line + "\n" for line in run.answered)

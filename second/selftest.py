@@ -7,7 +7,8 @@ refusals of each call, the edges of each range, and comparisons on seeded random
 frames: the fast path with the plain path, Replace with a fresh Clear, the text
 with a second reader made of patterns.  The checks of PPM files stand in
 ppmtest.py, those of depths in depthtest.py, those of settings in settingtest.py,
-those of masks in masktest.py, those of what the whole numbers cost in exacttest.py.
+those of masks in masktest.py, those of comparisons in counttest.py, those of what
+the whole numbers cost in exacttest.py.
 Where nothing is said of a mask, it is all seen.
 
 It prints one line for each group.  Where a check fails it prints what failed
@@ -30,6 +31,7 @@ sys.dont_write_bytecode = True
 HERE = os.path.dirname(os.path.abspath(__file__))
 sys.path.insert(0, HERE)
 
+import counttest
 import depthtest
 import exacttest
 import masktest
@@ -37,6 +39,7 @@ import ppmtest
 import rules
 import settingtest
 import text
+from counttest import uncounted
 
 WIDEST = 2 ** 64 - 1
 P2_FRAME = [200, 200, 200, 100, 150, 180]
@@ -73,7 +76,7 @@ def bits(value):
 
 
 # ---------------------------------------------------------------------------
-# Calls with all buffers of the right length
+# Calls with all buffers of the right length, the answers without their counts
 # ---------------------------------------------------------------------------
 
 def count_of(size):
@@ -81,18 +84,18 @@ def count_of(size):
 
 
 def light_of(size, settings, frame):
-    return rules.light(size, settings, rules.all_seen(size), frame, rules.work_needed(size))
+    return uncounted(rules.light(size, settings, rules.all_seen(size), frame, rules.work_needed(size)))
 
 
 def clear_of(size, settings, light, frame):
     count = count_of(size)
-    return rules.clear(size, settings, light, rules.all_seen(size), frame, count, 3 * count,
-                       rules.work_needed(size))
+    return uncounted(rules.clear(size, settings, light, rules.all_seen(size), frame, count, 3 * count,
+                                 rules.work_needed(size)))
 
 
 def replace_of(size, settings, light, rect, new, frame, map, picture):
-    return rules.replace(size, settings, light, rect, new, rules.all_seen(size), frame, map,
-                         picture, rules.work_needed(size))
+    return uncounted(rules.replace(size, settings, light, rect, new, rules.all_seen(size), frame, map,
+                                   picture, rules.work_needed(size)))
 
 
 def haze_of(size, light, clean, map):
@@ -1015,7 +1018,7 @@ GROUPS = (
     ("text, refusals by hand", group_text_refusals),
     ("text, random edits", group_text_random),
     ("text, largest frame", group_text_largest),
-) + masktest.GROUPS + exacttest.GROUPS + ppmtest.GROUPS + depthtest.GROUPS + settingtest.GROUPS
+) + masktest.GROUPS + counttest.GROUPS + exacttest.GROUPS + ppmtest.GROUPS + depthtest.GROUPS + settingtest.GROUPS
 
 
 def run_group(name, group):

@@ -115,9 +115,9 @@ def cleared(size, settings, frame):
     W, H = size
     work = rules.work_needed(size)
     mask = rules.all_seen(size)
-    refusal, light = rules.light(size, settings, mask, frame, work)
+    refusal, (light, comparisons) = rules.light(size, settings, mask, frame, work)
     assert refusal == 0
-    refusal, values = rules.clear(size, settings, light, mask, frame, W * H, 3 * W * H, work)
+    refusal, (values, comparisons) = rules.clear(size, settings, light, mask, frame, W * H, 3 * W * H, work)
     assert refusal == 0
     map, picture = values
     output = [written(b"light", light)]

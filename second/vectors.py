@@ -13,6 +13,8 @@ This file prints, with all inputs:
         with none: light or refusal, lines, map and picture
     (j) new pixels in that frame under a mask, at seen and hidden places, for
         three reaches
+    (k) lines of 1 to 12 samples: the comparisons of each for three radii
+    (l) the comparisons of a frame and of parts of it around rectangles
 
 Without a mask all is seen.  Frames (e) and (h) are found by a search that runs
 the same way every time.  Every result is held against the plain path before it
@@ -58,7 +60,7 @@ def must(condition, what):
 
 def light_of(size, settings, frame, mask=None):
     mask = mask or rules.all_seen(size)
-    number, light = rules.light(size, settings, mask, frame, rules.work_needed(size))
+    number, (light, comparisons) = rules.light(size, settings, mask, frame, rules.work_needed(size))
     must(number == 0, "light accepted")
     must(light == rules.plain_light(size, settings, mask, frame), "light as the plain path has it")
     return light
@@ -67,8 +69,8 @@ def light_of(size, settings, frame, mask=None):
 def clear_of(size, settings, light, frame, mask=None):
     mask = mask or rules.all_seen(size)
     count = size[0] * size[1]
-    number, values = rules.clear(size, settings, light, mask, frame, count, 3 * count,
-                                 rules.work_needed(size))
+    number, (values, comparisons) = rules.clear(size, settings, light, mask, frame, count, 3 * count,
+                                                rules.work_needed(size))
     must(number == 0, "clear accepted")
     must(values == rules.plain_clear(size, settings, light, mask, frame),
          "clear as the plain path has it")
@@ -316,7 +318,7 @@ def vector_i(what, mask):
     for settings in (SETTINGS, (*SETTINGS[:5], 600)):
         print("(i) a mask, %s: light" % what)
         say_inputs(SIZE, settings, FRAME, mask=mask)
-        number, light = rules.light(SIZE, settings, mask, FRAME, rules.work_needed(SIZE))
+        number, values = rules.light(SIZE, settings, mask, FRAME, rules.work_needed(SIZE))
         if number:
             say("refused", number)
         else:
@@ -345,7 +347,7 @@ def vector_j(s, r):
     say("new pixels", NEW)
     say("map before", old_map)
     say("picture before", old_picture)
-    number, (frame, map, picture) = rules.replace(
+    number, ((frame, map, picture), comparisons) = rules.replace(
         SIZE, settings, LIGHT, RECT, NEW, mask, FRAME, old_map, old_picture, rules.work_needed(SIZE))
     must(number == 0, "replace accepted")
     fresh_map, fresh_picture = rules.plain_clear(SIZE, settings, LIGHT, mask, frame)
@@ -356,6 +358,28 @@ def vector_j(s, r):
     say("frame after", frame)
     say("map after", map)
     say("picture after", picture)
+
+
+# ---------------------------------------------------------------------------
+# (k) and (l)
+# ---------------------------------------------------------------------------
+
+def vector_k(s):
+    print("(k) comparisons of lines, s %d" % s)
+    for n in range(1, 13):
+        say("%d samples" % n, rules.line_comparisons(n, s))
+
+
+def vector_l():
+    size, settings = (40, 30), (2, 1, 9500, 59, 1000, 1)
+    s, r = settings[:2]
+    print("(l) comparisons of a frame and of its parts")
+    say("size W H", size)
+    say("s r", (s, r))
+    say("whole frame", rules.budget(size, s))
+    for rect in ((0, 0, 1, 1), (20, 15, 3, 2), (39, 0, 1, 30), (0, 0, 40, 30)):
+        part = rules.part_around(size, rect, 2 * s + 4 * r)
+        say("rectangle %s, part of %d by %d" % (rect, *part), rules.frame_comparisons(part, s))
 
 
 def main():
@@ -374,6 +398,9 @@ def main():
         vector_i(what, mask)
     for s, r in ((0, 0), (1, 0), (1, 1)):
         vector_j(s, r)
+    for s in (0, 1, 2):
+        vector_k(s)
+    vector_l()
 
 
 if __name__ == "__main__":

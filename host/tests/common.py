@@ -80,14 +80,15 @@ def all_seen(size):
 
 
 def light_of(size, frame, settings=rules.DEFAULTS, mask=None):
-    return rules.light(size, settings, mask or all_seen(size), frame, rules.work_needed(size))[1]
+    number, values = rules.light(size, settings, mask or all_seen(size), frame, rules.work_needed(size))
+    return values and values[0]
 
 
 def cleared(size, frame, settings=rules.DEFAULTS, light=None, mask=None):
     """Map and picture."""
     mask = mask or all_seen(size)
     light = light or light_of(size, frame, settings, mask)
-    number, (map, picture) = rules.clear(size, settings, light, mask, frame, size[0] * size[1], len(frame), rules.work_needed(size))
+    number, ((map, picture), comparisons) = rules.clear(size, settings, light, mask, frame, size[0] * size[1], len(frame), rules.work_needed(size))
     check(number == 0, "the second program refuses", size, settings)
     return map, picture
 

@@ -207,18 +207,28 @@ def names_of_words():
         check(haze(*words, "raw", "out.ppm").returncode == (words[0] == "-v"), words)
 
 
+def spoken_line(light, comparisons, step):
+    line = r"haze: in.ppm: 16 by 12, light=%s%s; read {0}, light {0}, %s {0}\n" % (light, comparisons, step)
+    return line.format(r"\d+\.\d ms")
+
+
 def spoken():
-    """-v: the light and times on standard error, nothing else changed."""
+    """-v: the light, the comparisons and times on standard error, nothing else changed."""
     size = (16, 12)
     frame = hazy(size, "spoken")
     put("in.ppm", ppm(size, frame))
-    light = "%d,%d,%d" % light_of(size, frame)
+    light, comparisons = "%d,%d,%d" % light_of(size, frame), ", comparisons %d" % rules.budget(size, rules.DEFAULTS[0])
     for command, files, step in (("clear", ["out"], "clear {0}, write"), ("map", ["out"], "clear {0}, write"), ("depth", ["out"], "clear {0}, write"),
                                  ("light", [], "print"), ("band", ["0", "1"], "clear {0}, print"), ("add", ["out", "t=5000"], "add and write")):
         for words in (["-v", command, "in.ppm", *files][1:2] + ["-v", "in.ppm", *files], [command, "in.ppm", *files, "-v"]):
             run = haze(*words)
-            wanted = r"haze: in.ppm: 16 by 12, light=%s; read {0}, light {0}, %s {0}\n" % (light, step)
-            check(run.returncode == 0 and re.fullmatch(wanted.format(r"\d+\.\d ms"), run.stderr), words, run)
+            check(run.returncode == 0 and re.fullmatch(spoken_line(light, comparisons, step), run.stderr), words, run)
+    # with a light that is given, clearing alone takes comparisons; other radii, and none
+    for words, comparisons, step in ((["clear", "in.ppm", "out", "light=9,8,7", "s=2"], ", comparisons %d" % rules.budget(size, 2), "clear {0}, write"),
+                                     (["clear", "in.ppm", "out", "light=9,8,7", "s=0"], ", comparisons 0", "clear {0}, write"),
+                                     (["add", "in.ppm", "out", "t=5000", "light=9,8,7"], "", "add and write")):
+        run = haze(*words, "-v")
+        check(run.returncode == 0 and re.fullmatch(spoken_line("9,8,7", comparisons, step), run.stderr), words, run)
 
 
 def on_a_terminal(words, columns):

@@ -60,8 +60,10 @@ static int find_light(clearing *c, const words *w)
     c->lights.light = w->light;
     if (w->given[LIGHT]) return DONE;
     work = memory(room * sizeof *work);
-    number = haze_light(c->in.w, c->in.h, &w->settings, c->seen.bytes, c->seen.length, c->in.bytes, c->in.length, work, room, &c->lights);
+    number = haze_light(c->in.w, c->in.h, &w->settings, c->seen.bytes, c->seen.length, c->in.bytes, c->in.length, work, room, &c->lights,
+                        &c->comparisons);
     free(work);
+    c->compared = !number;
     return number ? refuse_words(w, number) : DONE;
 }
 
@@ -86,8 +88,9 @@ int clear_frame(clearing *c, const words *w)
     c->picture = new_frame(c->in.w, c->in.h);
     c->through = new_map(c->in.w, c->in.h);
     number = haze_clear(c->in.w, c->in.h, &w->settings, &c->lights, c->seen.bytes, c->seen.length, c->in.bytes, c->in.length, c->through.entries,
-                        c->through.count, c->picture.bytes, c->picture.length, work, room);
+                        c->through.count, c->picture.bytes, c->picture.length, work, room, &c->comparisons);
     free(work);
+    c->compared = !number;
     c->clearing = step(c);
     return number ? refuse_words(w, number) : DONE;
 }
@@ -103,9 +106,10 @@ void free_clearing(clearing *c)
 void tell_times(clearing *c, const words *w, const char *last)
 {
     const struct haze_rgb *light = &c->lights.light;
-    char cleared[40] = "";
+    char cleared[40] = "", compared[40] = "";
     if (!w->times) return;
+    if (c->compared) snprintf(compared, sizeof compared, ", comparisons %lu", (unsigned long)c->comparisons);
     if (c->picture.bytes) snprintf(cleared, sizeof cleared, "clear %.1f ms, ", c->clearing);
-    say("%s: %d by %d, light=%d,%d,%d; read %.1f ms, light %.1f ms, %s%s %.1f ms", input_name(c->path), (int)c->in.w, (int)c->in.h, light->red,
-        light->green, light->blue, c->reading, c->finding, cleared, last, step(c));
+    say("%s: %d by %d, light=%d,%d,%d%s; read %.1f ms, light %.1f ms, %s%s %.1f ms", input_name(c->path), (int)c->in.w, (int)c->in.h, light->red,
+        light->green, light->blue, compared, c->reading, c->finding, cleared, last, step(c));
 }

@@ -14,6 +14,8 @@ typedef struct {
     mask seen; /* of the frame's size */
     map through;
     struct haze_lights lights;
+    uint64_t comparisons; /* of the frame, the same for finding the light and for clearing */
+    int compared;         /* whether one of the two was done */
     double reading, finding, clearing, last; /* milliseconds; and when the last step ended */
 } clearing;
 
@@ -29,6 +31,6 @@ void free_clearing(clearing *c);
 /* That the light of the words is refused. */
 int refuse_light(const words *w);
 
-/* With -v: the light, and how long each step took; the last one is called by its name. */
+/* With -v: the light, the comparisons if there were any to make, and how long each step took; the last one is called by its name. */
 void tell_times(clearing *c, const words *w, const char *step);
 #endif

@@ -72,8 +72,9 @@ static int is_refused(int kind, uint64_t value)
     const uint8_t black[3] = {0, 0, 0}, seen[1] = {1};
     int64_t work[HAZE_WORK(1, 1)];
     struct haze_lights lights;
+    uint64_t comparisons;
     *place(&k, kind) = value;
-    return haze_light(1, 1, &k, seen, sizeof seen, black, sizeof black, work, HAZE_WORK(1, 1), &lights) == HAZE_BAD_SETTING;
+    return haze_light(1, 1, &k, seen, sizeof seen, black, sizeof black, work, HAZE_WORK(1, 1), &lights, &comparisons) == HAZE_BAD_SETTING;
 }
 
 int refuse_settings(const words *w)

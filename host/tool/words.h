@@ -16,7 +16,7 @@ typedef struct {
     char **files;
     int count;           /* of files */
     const char *folder;  /* behind -o */
-    int times;           /* whether -v asks for light and times */
+    int times;           /* whether -v asks for light, comparisons and times */
     struct haze_settings settings;
     struct haze_rgb light;
     const char *mask, *map, *depth;

@@ -32,9 +32,19 @@ module _
         after = told .1 ∙ ap (λ (a : A). leaves a old) e ∙ or-left ok bad leaves ok-leaves bad-leaves refusal new old;
       }
 
--- two places that are written by the same calls are one
-pub unless-both :
+-- ---- a place more
+
+unless-both :
     {A B C : Type 0} (both : A → B → C) (k : ℕ) (a a′ : A) (b b′ : B)
     → both (unless k a a′) (unless k b b′) ≡ unless k (both a b) (both a′ b′)
 unless-both both zero a a′ b b′ = refl
 unless-both both (suc k) a a′ b b′ = refl
+
+-- two places that are written by the same calls are one
+pub both-return :
+    {A B C : Type 0} (both : A → B → C) (refusal : ℕ) (left left′ : A) (new old : B) {l : A} {m : B} {n : ℕ}
+    → l ≡ unless refusal left left′
+    → Returns refusal new old n m
+    → Returns refusal (both left new) (both left′ old) n (both l m)
+both-return both refusal left left′ new old e r =
+    record { number = r .number; after = rw (e, r .after) (unless-both both refusal left left′ new old) }

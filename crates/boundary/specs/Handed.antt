@@ -8,6 +8,9 @@ use Rattle.rules.specs.declared.Settings.{Settings}
 use Rattle.rules.specs.declared.Rgb.{Rgb}
 use Rattle.rules.specs.declared.Rect.{Rect}
 use Rattle.rules.specs.declared.Figure.{Figure}
+use Rattle.rules.specs.declared.Outcome.{Outcome}
+use Rattle.rules.specs.declared.Outcome.the-variants as outcome
+use Rattle.rules.specs.declared.Finding.{Finding}
 use Rattle.rules.specs.declared.Found.{Found}
 use Rattle.rules.specs.declared.Found.the-variants as found
 use Rattle.rules.specs.declared.Band.{Band}
@@ -31,16 +34,24 @@ rectIn l = record { x = getD l 0 0; y = getD l 1 0; w = getD l 2 0; h = getD l 3
 abbrev pub figureIn : Float → Float → Figure
 figureIn mean least = record { mean = mean; least = least }
 
+abbrev pub findingIn : List ℕ → ℕ → Finding
+findingIn lights comparisons = record { light = rgbIn lights; comparisons = comparisons }
+
 -- size, settings and light together
 abbrev pub setupIn : ℕ → ℕ → List ℕ → List ℕ → List ℕ → Setup
 setupIn w h settings lights mask = handed (size w h) (settingsIn settings) (rgbIn lights) mask
 
 -- ---- places for results
 
--- what stands in the place of a light after an answer of Light
-abbrev pub lightAfter : Found → Rgb → Rgb
-lightAfter (found.Light a) old = a
-lightAfter (found.Refused n) old = old
+-- what stands in the place of the comparisons after an answer of Clear or Replace
+abbrev pub countAfter : Outcome → ℕ → ℕ
+countAfter (outcome.Done c) old = c
+countAfter (outcome.Refused n) old = old
+
+-- in those of a light and its comparisons after an answer of Light
+abbrev pub findingAfter : Found → Finding → Finding
+findingAfter (found.Light f) old = f
+findingAfter (found.Refused n) old = old
 
 -- and in those of a figure after an answer of Band figure
 abbrev pub figureAfter : Band → Figure → Figure

@@ -1,11 +1,12 @@
 // What C hands over and gets back, as the values of document 01: sizes, settings, lights and rectangles from numbers and arrays; an answer as the number that
 // is returned, with the value that it carries in its places.
 ghost use mathlib.Core.Path.{_≡_};
-ghost use Rattle.rules.specs.Promise.{said, foundSaid, bandSaid};
-ghost use Rattle.boundary.specs.Handed.{size, settingsIn, rgbIn, rectIn, figureIn, lightAfter, figureAfter};
+ghost use Rattle.rules.specs.Promise.{said, outcomeSaid, foundSaid, bandSaid};
+ghost use Rattle.boundary.specs.Handed.{size, settingsIn, rgbIn, rectIn, figureIn, findingIn, countAfter, findingAfter, figureAfter};
 use rules::Answer;
 use rules::Band;
 use rules::Found;
+use rules::Outcome;
 use rules::Rect;
 use rules::Rgb;
 use rules::Settings;
@@ -72,13 +73,28 @@ pub fn number(answer: Answer) -> u8
     }
 }
 
-// The number that Light's answer says; a light that was found goes into the place.
-pub fn lit(found: Found, lights: &mut [u8; 3]) -> u8
-    ensures { λ n. ⌜ (n ≡ foundSaid found) × (rgbIn (now (lights .exit)) ≡ lightAfter found (rgbIn (now (lights .entry)))) ⌝ }
+// The number that an answer of Clear or Replace says; the comparisons of a call that is done go into the place.
+pub fn counted(outcome: Outcome, comparisons: &mut u64) -> u8
+    ensures { λ n. ⌜ (n ≡ outcomeSaid outcome) × (now (comparisons .exit) ≡ countAfter outcome (now (comparisons .entry))) ⌝ }
+{
+    match outcome {
+        Outcome::Done(count) => {
+            *comparisons = count;
+            0
+        }
+        Outcome::Refused(n) => n,
+    }
+}
+
+// The number that Light's answer says; a light that was found and its comparisons go into the two places.
+pub fn lit(found: Found, lights: &mut [u8; 3], comparisons: &mut u64) -> u8
+    ensures { λ n. ⌜ (n ≡ foundSaid found)
+        × (findingIn (now (lights .exit)) (now (comparisons .exit)) ≡ findingAfter found (findingIn (now (lights .entry)) (now (comparisons .entry)))) ⌝ }
 {
     match found {
-        Found::Light(a) => {
-            *lights = [a.r, a.g, a.b];
+        Found::Light(f) => {
+            *lights = [f.light.r, f.light.g, f.light.b];
+            *comparisons = f.comparisons;
             0
         }
         Found::Refused(n) => n,

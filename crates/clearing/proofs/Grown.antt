@@ -2,7 +2,7 @@
 use mathlib.Core.Path.{_≡_, ap, _∙_, sym}
 use mathlib.Core.Bool.{Bool, true, cond}
 use mathlib.Core.List.{List}
-use Prim.Native.Nat.{ℕ, _+_, _*_, _≤_, _<_}
+use Prim.Native.Nat.{ℕ, _+_, _≤_, _<_}
 use native.Mathlib.Nat.{sub-zero}
 use native.Mathlib.Omega.{arith}
 use lib.ListN.{length}
@@ -11,14 +11,16 @@ use Rattle.rules.specs.declared.Settings.{Settings}
 use Rattle.rules.specs.declared.Rgb.{Rgb}
 use Rattle.rules.specs.declared.Rect.{Rect}
 use Rattle.rules.specs.Window.{Plane}
-use Rattle.rules.specs.Buffers.{bytes, entries, near, patch, reach}
+use Rattle.rules.specs.Buffers.{bytes, entries, near, patch}
 use Rattle.rules.specs.Good.{GoodSize, GoodRect}
 use Rattle.rules.specs.Box.{Covers}
+use Rattle.rules.specs.Count.{grownRect}
 use Rattle.rules.proofs.Buffers.{entries-cong, bytes-cong}
-use Rattle.rules.proofs.Near.{Near, near-yes, near-facts, same-test}
+use Rattle.rules.proofs.Near.{Near, near-yes, near-facts}
+use Rattle.rules.proofs.Grown.{grown-good, grown-near}
 use Rattle.rules.proofs.Box.{whole-sees}
 use Rattle.planes.specs.Stage.{Given}
-use Rattle.clearing.specs.Call.{wholeRect, shapeOf, grownRect, Inside, Nested}
+use Rattle.clearing.specs.Call.{wholeRect, shapeOf, Inside, Nested}
 
 -- two tests that agree in the frame write the same
 patch-test : {A : Type 0} (s t : ℕ → ℕ → Bool) (new old : Plane A) (v u : ℕ) → s v u ≡ t v u → patch s new old v u ≡ patch t new old v u
@@ -64,22 +66,12 @@ module _ (z : Shape) (c : Rect) (i : GoodRect z c) where
   -- it lies in the frame, and in itself grown farther
   grown-whole : (q : ℕ) → Inside (wholeRect z) (grownRect z q c)
   grown-whole q =
-      record { up = omega arith; down = omega (arith, i .down); west = omega arith; east = omega (arith, i .across); across = omega (arith, i .some-w, i .across); tall = omega (arith, i .some-h, i .down) }
+      let g = grown-good z q c i in
+      record { up = omega arith; down = omega (arith, g .down); west = omega arith; east = omega (arith, g .across); across = g .some-w; tall = g .some-h }
 
   grown-inside : (q m : ℕ) → q ≤ m → Inside (grownRect z m c) (grownRect z q c)
   grown-inside q m l =
       record { up = omega arith; down = omega (arith, i .down); west = omega arith; east = omega (arith, i .across); across = omega (arith, i .some-w, i .across); tall = omega (arith, i .some-h, i .down) }
-
-  -- in the frame, what is near c within q is what lies in it grown by q
-  near-grown : (q v u : ℕ) → v < z .h → u < z .w → near 0 (grownRect z q c) v u ≡ near q c v u
-  near-grown q v u hv hu =
-      same-test (near 0 (grownRect z q c) v u) (near q c v u)
-      (λ e.
-      let n : Near 0 (grownRect z q c) v u = near-facts 0 (grownRect z q c) v u e in
-      near-yes q c v u (record { top = omega (arith, n .top); bottom = omega (arith, n .bottom); left = omega (arith, n .left); right = omega (arith, n .right) }))
-      (λ e.
-      let n : Near q c v u = near-facts q c v u e in
-      near-yes 0 (grownRect z q c) v u (record { top = omega (arith, n .top); bottom = omega (arith, n .bottom); left = omega (arith, n .left); right = omega (arith, n .right) }))
 
   -- grown by q, it sees as far as m in itself grown by as much more
   grown-covers : (q m n : ℕ) → q + m ≤ n → Covers z (shapeOf (grownRect z n c)) (grownRect z n c .y) (grownRect z n c .x) m (near 0 (grownRect z q c))
@@ -97,20 +89,21 @@ module _ (z : Shape) (c : Rect) (i : GoodRect z c) where
   }
     where
       facts : (v u : ℕ) → v < z .h → u < z .w → near 0 (grownRect z q c) v u ≡ true → Near q c v u
-      facts v u hv hu e = near-facts q c v u (sym (near-grown q v u hv hu) ∙ e)
+      facts v u hv hu e = near-facts q c v u (sym (grown-near z q c v u hv hu) ∙ e)
 
-  pub nested-grown : (k : Settings) (f p o : Rect) → f ≡ grownRect z (2 * reach k) c → p ≡ grownRect z (reach k + k .r) c → o ≡ grownRect z (reach k) c → Nested z k f p o
-  nested-grown k f p o ef ep eo = rw (ef, ep, eo) (record {
-    box = grown-whole (2 * reach k);
-    part = grown-inside (reach k + k .r) (2 * reach k) (omega arith);
-    rect = grown-inside (reach k) (reach k + k .r) (omega arith);
-    lines = grown-covers (reach k + k .r) (k .s + k .r) (2 * reach k) (omega arith);
-    entries = grown-covers (reach k) (k .r) (reach k + k .r) (omega arith);
+  -- the box grown by n, the rectangle that has lines by m, the one that is brought up to date by q: each as much farther as the next one looks
+  pub nested-grown : (k : Settings) (f p o : Rect) (q : ℕ) {m n : ℕ} → f ≡ grownRect z n c → p ≡ grownRect z m c → o ≡ grownRect z q c → q + k .r ≤ m → m + (k .s + k .r) ≤ n → Nested z k f p o
+  nested-grown k f p o q {m} {n} ef ep eo hm hn = rw (ef, ep, eo) (record {
+    box = grown-whole n;
+    part = grown-inside m n (omega arith);
+    rect = grown-inside q m (omega arith);
+    lines = grown-covers m (k .s + k .r) n hn;
+    entries = grown-covers q (k .r) m hm;
   })
 
   module _ (q : ℕ) (o : Rect) (eo : o ≡ grownRect z q c) where
     test-is : (v u : ℕ) → v < z .h → u < z .w → near 0 o v u ≡ near q c v u
-    test-is v u hv hu = rw eo (near-grown q v u hv hu)
+    test-is v u hv hu = rw eo (grown-near z q c v u hv hu)
 
     pub grown-entries : (new old : Plane ℕ) → entries z (patch (near 0 o) new old) ≡ entries z (patch (near q c) new old)
     grown-entries new old = entries-cong z _ _ (λ v u hv hu. patch-test (near 0 o) (near q c) new old v u (test-is v u hv hu))

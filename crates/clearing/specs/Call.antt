@@ -1,7 +1,7 @@
 -- What a call that is not refused is lent, and the rectangles that Clear and Replace work on. Assumes nothing.
 use mathlib.Core.Path.{_≡_}
 use mathlib.Core.List.{List}
-use Prim.Native.Nat.{ℕ, _+_, _-_, _*_, min, _≤_, _<_}
+use Prim.Native.Nat.{ℕ, _+_, _-_, _*_, _≤_, _<_}
 use lib.ListN.{length}
 use lib.IntN.{ℤ}
 use Rattle.rules.specs.Shape.{Shape, room}
@@ -24,16 +24,6 @@ wholeRect z = record { x = 0; y = 0; w = z .w; h = z .h }
 -- a rectangle's shape
 abbrev pub shapeOf : Rect → Shape
 shapeOf c = record { w = c .w; h = c .h }
-
--- the rectangle grown by q rows and columns and cut at the frame
-abbrev pub grownRect : Shape → ℕ → Rect → Rect
-grownRect z q c =
-    record {
-      x = c .x - q;
-      y = c .y - q;
-      w = min (z .w) (c .x + c .w + q) - (c .x - q);
-      h = min (z .h) (c .y + c .h + q) - (c .y - q);
-    }
 
 -- a rectangle of at least one pixel lies in another
 pub record Inside (outer inner : Rect) : Type 0 where

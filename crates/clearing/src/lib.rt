@@ -9,12 +9,13 @@ ghost use Rattle.rules.specs.Buffers.{shownBy, mapOf, pictureOf, mapWith, frame
 ghost use Rattle.rules.specs.Box.{part};
 ghost use Rattle.rules.specs.Good.{GoodRect};
 ghost use Rattle.rules.specs.Setup.{handed};
+ghost use Rattle.rules.specs.Count.{grownRect, frameComparisons, clearComparisons, replaceComparisons};
 ghost use Rattle.rules.specs.Promise.{wiped, lentOf, afterClear, afterReplace};
 ghost use Rattle.planes.specs.View.{InPlane, boxOf};
 ghost use Rattle.planes.specs.Cells.{SameFrom};
 ghost use Rattle.planes.specs.Stage.{Given, GivenView, Lined, boxSeen, boxPixels};
 ghost use Rattle.writer.specs.Run.{Run};
-ghost use Rattle.clearing.specs.Call.{Loan, Inside, Nested, grownRect, inView, viewOf};
+ghost use Rattle.clearing.specs.Call.{Loan, Inside, Nested, shapeOf, inView, viewOf};
 use coarse::prepare;
 use filter::fit;
 use numbers::cut;
@@ -106,21 +107,32 @@ fn paste(frame: &mut [u8], z: Size, c: Rect, new: &[u8])
 
 // ---- the passes
 
-// The lines of the view p of the box that the view v shows: behind the box's samples, in a work area that may hold anything.
-pub fn lines(work: &mut [i64], mask: &[u8], frame: &[u8], v: View, p: View, k: Settings, a: Rgb)
+// The lines of the view p of the box that the view v shows: behind the box's samples, in a work area that may hold anything. Returns the number of comparisons
+// of the minimum.
+pub fn lines(
+    work: &mut [i64],
+    mask: &[u8],
+    frame: &[u8],
+    v: View,
+    p: View,
+    k: Settings,
+    a: Rgb,
+) -> usize
     requires { ⌜ GivenView v k a (now mask) (now frame) × InPlane p × (p .w ≡ v .wide) × (p .h ≡ v .tall) ⌝ }
     requires { ⌜ 2 * (v .wide * v .tall) + 2 * (p .wide * p .tall) ≤ length (now work) ⌝ }
     ensures lines { λ _. ⌜ Lined (now (work .exit)) (2 * (v .wide * v .tall)) (p .wide) (p .tall)
         (part (p .top) (p .left) (boxSeen v (now (mask .entry))))
         (part (p .top) (p .left) (lined (boxOf v) k a (boxPixels v (now (mask .entry)) (now (frame .entry))))) ⌝ }
     ensures rest { λ _. ⌜ SameFrom (now (work .entry)) (now (work .exit)) (2 * (v .wide * v .tall) + 2 * (p .wide * p .tall)) ⌝ }
+    ensures count { λ r. ⌜ r ≡ frameComparisons (boxOf v) (k .s) ⌝ }
 {
-    prepare(work, mask, frame, v, k, a);
+    let count = prepare(work, mask, frame, v, k, a);
     fit(work, mask, v, p, k.r, k.e);
+    count
 }
 
 // The rectangle o of map and picture, by way of the lines of the rectangle p and the box f, as a clearing of the whole frame has it. The work area may hold
-// anything, and is left wiped.
+// anything, and is left wiped. Returns the number of comparisons of the minimum.
 fn refresh(
     map: &mut [u16],
     picture: &mut [u8],
@@ -133,15 +145,16 @@ fn refresh(
     f: Rect,
     p: Rect,
     o: Rect,
-)
+) -> usize
     requires { ⌜ Given (described z) (described z) 0 0 k a (now mask) (now frame) × Nested (described z) k f p o ⌝ }
     requires { ⌜ Loan (described z) (now map) (now picture) (now work) ⌝ }
     ensures map { λ _. ⌜ now (map .exit) ≡ mapWith (described z) (near 0 o) (mapOf (handed z k a (now (mask .entry))) (shownBy (handed z k a (now (mask .entry))) (now (frame .entry)))) (now (map .entry)) ⌝ }
     ensures picture { λ _. ⌜ now (picture .exit) ≡ frameWith (described z) (near 0 o) (pictureOf (handed z k a (now (mask .entry))) (shownBy (handed z k a (now (mask .entry))) (now (frame .entry)))) (now (picture .entry)) ⌝ }
     ensures work { λ _. ⌜ now (work .exit) ≡ wiped (described z) (now (work .entry)) ⌝ }
+    ensures count { λ r. ⌜ r ≡ frameComparisons (shapeOf f) (k .s) ⌝ }
 {
     let to = view(z, o);
-    lines(work, mask, frame, view(z, f), within(f, p), k, a);
+    let count = lines(work, mask, frame, view(z, f), within(f, p), k, a);
     write_map(
         map,
         mask,
@@ -155,9 +168,10 @@ fn refresh(
     );
     write_picture(picture, &map[..], frame, to, a, k.t0);
     wipe(work, 8 * ((z.w + 1) * (z.h + 1)));
+    count
 }
 
-// Clear, of a call that is not refused: all three are the whole frame.
+// Clear, of a call that is not refused: all three are the whole frame. Returns the number of comparisons of the minimum.
 pub fn clear_whole(
     map: &mut [u16],
     picture: &mut [u8],
@@ -167,10 +181,11 @@ pub fn clear_whole(
     z: Size,
     k: Settings,
     a: Rgb,
-)
+) -> usize
     requires { ⌜ Given (described z) (described z) 0 0 k a (now mask) (now frame) ⌝ }
     requires { ⌜ Loan (described z) (now map) (now picture) (now work) ⌝ }
-    ensures { λ _. ⌜ lentOf (now (frame .entry)) (now (map .exit)) (now (picture .exit)) (now (work .exit))
+    ensures count { λ r. ⌜ r ≡ clearComparisons (handed z k a (now (mask .entry))) ⌝ }
+    ensures after { λ _. ⌜ lentOf (now (frame .entry)) (now (map .exit)) (now (picture .exit)) (now (work .exit))
         ≡ afterClear (handed z k a (now (mask .entry))) (lentOf (now (frame .entry)) (now (map .entry)) (now (picture .entry)) (now (work .entry))) ⌝ }
 {
     let o = Rect {
@@ -179,10 +194,11 @@ pub fn clear_whole(
         w: z.w,
         h: z.h,
     };
-    refresh(map, picture, mask, frame, work, z, k, a, o, o, o);
+    refresh(map, picture, mask, frame, work, z, k, a, o, o, o)
 }
 
 // Replace, of a call that is not refused: the rectangle of the new pixels grown by the reach, by that and the radius of the filter, and by twice the reach.
+// Returns the number of comparisons of the minimum.
 pub fn replace_whole(
     mask: &[u8],
     frame: &mut [u8],
@@ -194,11 +210,12 @@ pub fn replace_whole(
     a: Rgb,
     c: Rect,
     new: &[u8],
-)
+) -> usize
     requires { ⌜ Given (described z) (described z) 0 0 k a (now mask) (now frame) ⌝ }
     requires { ⌜ Loan (described z) (now map) (now picture) (now work) ⌝ }
     requires { ⌜ GoodRect (described z) c × (length (now new) ≡ 3 * (c .w * c .h)) ⌝ }
-    ensures { λ _. ⌜ lentOf (now (frame .exit)) (now (map .exit)) (now (picture .exit)) (now (work .exit))
+    ensures count { λ r. ⌜ r ≡ replaceComparisons (handed z k a (now (mask .entry))) c ⌝ }
+    ensures after { λ _. ⌜ lentOf (now (frame .exit)) (now (map .exit)) (now (picture .exit)) (now (work .exit))
         ≡ afterReplace (handed z k a (now (mask .entry))) c (now (new .entry))
         (lentOf (now (frame .entry)) (now (map .entry)) (now (picture .entry)) (now (work .entry))) ⌝ }
 {
@@ -207,5 +224,5 @@ pub fn replace_whole(
     let f = grow(z, c, 2 * q);
     let p = grow(z, c, q + k.r);
     let o = grow(z, c, q);
-    refresh(map, picture, mask, frame, work, z, k, a, f, p, o);
+    refresh(map, picture, mask, frame, work, z, k, a, f, p, o)
 }

@@ -14,12 +14,13 @@ use Rattle.planes.specs.View.{boxOf}
 use Rattle.planes.specs.Stage.{boxSeen, boxPixels, Sampled}
 use Rattle.planes.proofs.Shown.{shown-guide}
 use Rattle.columns.specs.Down.{Down}
+use Rattle.columns.proofs.Counted.{Counted}
 use Rattle.coarse.specs.Rows.{leastAlong, SampledTo}
 use Rattle.coarse.proofs.Planes.{sampled-none}
 use Rattle.coarse.proofs.Minima.{coarse-le}
 
--- l is the work area as it came, m as it is before row i goes down the columns
-pub record Going (v : View) (k : Settings) (a : Rgb) (mask frame : List ℕ) (l m : List ℤ) (row p q store ahead out : List ℕ) (i : ℕ) : Type 0 where
+-- l is the work area as it came, m as it is before row i goes down the columns, after `count` comparisons
+pub record Going (v : View) (k : Settings) (a : Rgb) (mask frame : List ℕ) (l m : List ℤ) (row p q store ahead out : List ℕ) (count i : ℕ) : Type 0 where
   pub most : i ≤ v .tall + k .s
   pub long : length m ≡ length l
   pub row-long : length row ≡ 1024
@@ -30,6 +31,7 @@ pub record Going (v : View) (k : Settings) (a : Rgb) (mask frame : List ℕ) (l 
   pub out-long : length out ≡ 1024
   pub columns : Down store ahead (v .wide) (k .s) (v .tall) (leastAlong v a (k .s) mask frame) i
   pub samples : SampledTo l m (v .wide) (v .tall) (sample (boxOf v) k a (boxPixels v mask frame)) (i - k .s)
+  pub counted : Counted (k .s) (v .wide) (v .tall) count i
 
 -- no row is written before step s
 pub samples-start : (v : View) (k : Settings) (a : Rgb) (mask frame : List ℕ) (l : List ℤ) → SampledTo l l (v .wide) (v .tall) (sample (boxOf v) k a (boxPixels v mask frame)) (0 - k .s)

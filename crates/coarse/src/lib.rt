@@ -9,12 +9,13 @@ ghost use lib.ListN.{length, getD};
 ghost use lib.IntN.{ℤ, pos};
 ghost use Rattle.rules.specs.Good.{GoodLight};
 ghost use Rattle.rules.specs.Window.{Plane, Shown};
+ghost use Rattle.rules.specs.Count.{frameComparisons};
 ghost use Rattle.rules.specs.Transmission.{Sample, sample};
 ghost use Rattle.planes.specs.View.{InPlane, boxOf};
 ghost use Rattle.planes.specs.Cells.{SameFrom};
 ghost use Rattle.planes.specs.Stage.{GivenView, Sampled, maskedAt, boxSeen, boxPixels};
 ghost use Rattle.pixel.specs.Over.{ScaledBy};
-ghost use Rattle.columns.specs.Down.{RowIs};
+ghost use Rattle.columns.specs.Down.{RowIs, alongCount};
 ghost use Rattle.coarse.specs.Rows.{Scaled, ratioAt, leastAlong, sampleOf, SamplesPut, SampledTo};
 use columns::down;
 use pixel::Scales;
@@ -79,7 +80,7 @@ fn ratio_row(row: &mut [u16], mask: &[u8], frame: &[u8], p: usize, n: usize, a: 
     }
 }
 
-// Step i of the minimum has row i of the box, if there is one: its least ratios, each over its window along the row.
+// Step i of the minimum has row i of the box, if there is one: its least ratios, each over its window along the row. Returns the number of comparisons.
 fn take_row(
     mask: &[u8],
     frame: &[u8],
@@ -91,16 +92,17 @@ fn take_row(
     row: &mut [u16],
     p: &mut [u16],
     q: &mut [u16],
-)
+) -> usize
     requires { ⌜ InPlane v × (s ≤ 30) × (length (now mask) ≡ v .w * v .h) × (length (now frame) ≡ 3 * (v .w * v .h)) × GoodLight a × ScaledBy a k ⌝ }
     requires { ⌜ (length (now row) ≡ 1024) × (length (now p) ≡ 1024) × (length (now q) ≡ 1024) ⌝ }
-    ensures { λ _. ⌜ (i < v .tall → RowIs (now (row .exit)) (leastAlong v a s (now (mask .entry)) (now (frame .entry))) i (v .wide)) ⌝ }
+    ensures mins { λ _. ⌜ (i < v .tall → RowIs (now (row .exit)) (leastAlong v a s (now (mask .entry)) (now (frame .entry))) i (v .wide)) ⌝ }
+    ensures count { λ r. ⌜ r ≡ alongCount s (v .wide) (v .tall) i ⌝ }
 {
     if v.tall <= i {
-        return;
+        return 0;
     }
     ratio_row(row, mask, frame, row_start(v, i), v.wide, a, k);
-    shrink(row, v.wide, s, p, q);
+    shrink(row, v.wide, s, p, q)
 }
 
 // The word of a sample that has its guide g, and above it the guide times the coarse value t.
@@ -187,13 +189,14 @@ fn give_row(
     );
 }
 
-// The samples of the box, in a work area that may hold anything.
-pub fn prepare(work: &mut [i64], mask: &[u8], frame: &[u8], v: View, k: Settings, a: Rgb)
+// The samples of the box, in a work area that may hold anything. Returns the number of comparisons of the minimum.
+pub fn prepare(work: &mut [i64], mask: &[u8], frame: &[u8], v: View, k: Settings, a: Rgb) -> usize
     requires { ⌜ GivenView v k a (now mask) (now frame) ⌝ }
     requires { ⌜ 2 * (v .wide * v .tall) ≤ length (now work) ⌝ }
     ensures samples { λ _. ⌜ Sampled (now (work .exit)) (v .wide) (v .tall) (boxSeen v (now (mask .entry)))
         (sample (boxOf v) k a (boxPixels v (now (mask .entry)) (now (frame .entry)))) ⌝ }
     ensures rest { λ _. ⌜ SameFrom (now (work .entry)) (now (work .exit)) (2 * (v .wide * v .tall)) ⌝ }
+    ensures count { λ r. ⌜ r ≡ frameComparisons (boxOf v) (k .s) ⌝ }
 {
     let mut row = [0u16; 1024];
     let mut p = [0u16; 1024];
@@ -205,9 +208,10 @@ pub fn prepare(work: &mut [i64], mask: &[u8], frame: &[u8], v: View, k: Settings
     let w = v.wide;
     let h = v.tall;
     let s = k.s;
+    let mut count = 0;
     let mut i = 0;
     while i < h + s {
-        take_row(
+        count += take_row(
             mask,
             frame,
             v,
@@ -219,7 +223,7 @@ pub fn prepare(work: &mut [i64], mask: &[u8], frame: &[u8], v: View, k: Settings
             &mut p[..],
             &mut q[..],
         );
-        down(
+        count += down(
             &row[..],
             i,
             h,
@@ -232,4 +236,5 @@ pub fn prepare(work: &mut [i64], mask: &[u8], frame: &[u8], v: View, k: Settings
         give_row(work, mask, frame, v, i, s, k.omega, &out[..]);
         i += 1;
     }
+    count
 }

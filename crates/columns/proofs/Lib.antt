@@ -1,3 +1,4 @@
 -- What belongs to no one function.
 pub mod Stores
 pub mod Steps
+pub mod Counted

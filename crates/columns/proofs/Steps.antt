@@ -4,20 +4,22 @@ use mathlib.Core.Bool.{cond}
 use mathlib.Core.List.{List}
 use mathlib.Core.Logic.{⊎-elim}
 use Prim.Native.Nat.{ℕ, zero, suc, _+_, _-_, _*_, _≤_, _<_, min, zero-le}
+use native.Mathlib.Nat.{mul-zero, mul-one, mul-add, mul-le-mul}
 use native.Mathlib.Omega.{arith}
 use borrow.Author.Tests.{lt-ltb, le-ltb, eq-eqb, ne-eqb}
 use lib.Dec.{ltb, eqb}
 use Rattle.rules.specs.Window.{Plane}
-use Rattle.windows.specs.Span.{span, lo, hi, windowed}
+use Rattle.rules.specs.Count.{lo, hi, crossing, tally, comparisons, samples}
+use Rattle.rules.proofs.Count.{inner, inner-is, inner-none, inner-step, samples-length, cond-le, tally-none, tally-suc, tally-cong, tally-zeros, tally-add, tally-split, tally-while}
+use Rattle.windows.specs.Span.{span, windowed}
 use Rattle.windows.specs.Blocks.{start, stop}
-use Rattle.windows.specs.Count.{tally, crossing, comparisons, samples}
 use Rattle.windows.specs.Line.{entry, Laid}
 use Rattle.columns.specs.Down.{RowIs, leastOf, cell, Open, Amid, Shut, Down, Folded, Given, Closed, Taken, Rested, joins, meets, folds, rowCount, windowCount, downCount}
 use Rattle.windows.proofs.Spans.{span-one, span-more, span-split, span-cong, span-shift}
 use Rattle.windows.proofs.Cuts.{lt-or-ge, start-le, lt-start, start-zero, start-same, start-start, start-next}
 use Rattle.windows.proofs.Lines.{min-assoc, laid-at}
 use Rattle.columns.proofs.Stores.{row-apart, row-kept}
-use Rattle.windows.proofs.Counts.{inner, inner-is, inner-none, inner-step, samples-length, samples-at-most, cond-le, tally-none, tally-suc, tally-cong, tally-zeros, tally-add, tally-split, crossing-is}
+use Rattle.windows.proofs.Crossings.{crossing-is}
 
 -- before the first row nothing is known
 pub down-start : (store ahead : List ℕ) (n s h : ℕ) (f : Plane ℕ) → Down store ahead n s h f 0
@@ -149,32 +151,32 @@ module _ (k v j : ℕ) (some : 0 < k) (e : j ≡ v - start k v) where
       (λ (o : v ≤ start k v). rw (le-ltb (start k v) v o) (omega arith))
       (lt-or-ge (start k v) v)
 
-  meets-is : (store ahead out : List ℕ) (n q : ℕ) → Given store ahead out v j k n q → q ≡ meets k (v + 1 - k) v
+  meets-is : (store ahead out : List ℕ) (n q : ℕ) → Given store ahead out v j k n q → q ≡ n * meets k (v + 1 - k) v
   meets-is store ahead out n q g =
       let low = start-le k some v in
       let up = lt-start k some v in
       ⊎-elim
       (λ (o : v < k).
       let z : start k v ≡ 0 = start-same k some 0 v (start-zero k some) zero-le (omega arith) in
-      rw (le-ltb (v + 1 - k) (start k v) (omega arith)) (g .few o .0))
+      rw (le-ltb (v + 1 - k) (start k v) (omega arith)) (g .few o .0 ∙ sym (mul-zero n)))
       (λ (o : k ≤ v).
       ⊎-elim
-      (λ (p : j + 1 < k). rw (lt-ltb (v + 1 - k) (start k v) (omega arith)) (g .two o p .0))
-      (λ (p : k ≤ j + 1). rw (le-ltb (v + 1 - k) (start k v) (omega arith)) (g .whole (omega arith) .0))
+      (λ (p : j + 1 < k). rw (lt-ltb (v + 1 - k) (start k v) (omega arith)) (g .two o p .0 ∙ sym (mul-one n)))
+      (λ (p : k ≤ j + 1). rw (le-ltb (v + 1 - k) (start k v) (omega arith)) (g .whole (omega arith) .0 ∙ sym (mul-zero n)))
       (lt-or-ge (j + 1) k))
       (lt-or-ge v k)
 
-  folds-is : (l m : List ℕ) (h n q : ℕ) → v < h → Closed l m v h j k n q → q ≡ folds k h v
+  folds-is : (l m : List ℕ) (h n q : ℕ) → v < h → Closed l m v h j k n q → q ≡ n * folds k h v
   folds-is l m h n q vh w =
       let low = start-le k some v in
       let up = lt-start k some v in
       ⊎-elim
       (λ (o : j + 1 < k).
       ⊎-elim
-      (λ (p : v + 1 < h). rw (ne-eqb v (stop k h v) (λ z. omega arith)) (w .on o p .0))
-      (λ (p : h ≤ v + 1). rw (eq-eqb v (stop k h v) (omega arith)) (w .last (omega arith) .0 ∙ e))
+      (λ (p : v + 1 < h). rw (ne-eqb v (stop k h v) (λ z. omega arith)) (w .on o p .0 ∙ sym (mul-zero n)))
+      (λ (p : h ≤ v + 1). rw (eq-eqb v (stop k h v) (omega arith)) (rw e at (w .last (omega arith) .0)))
       (lt-or-ge (v + 1) h))
-      (λ (o : k ≤ j + 1). rw (eq-eqb v (stop k h v) (omega arith)) (w .full (omega arith) .0 ∙ e))
+      (λ (o : k ≤ j + 1). rw (eq-eqb v (stop k h v) (omega arith)) (rw e at (w .full (omega arith) .0)))
       (lt-or-ge (j + 1) k)
 
 -- ---- a step with a row
@@ -187,7 +189,7 @@ module _ (row store ahead ahead′ out mid store′ : List ℕ) (v h n k j a b c
   amid : (f : Plane ℕ) → Open store ahead n k f v → RowIs row f v n → Amid mid ahead′ n k f v
   amid f t r = stored f n k v some row store ahead t r mid ahead′ j e (fore-is f t r) d
 
-  pub taken : a ≡ min j 1 → Taken row store ahead store′ ahead′ out v h n k (a + b + c)
+  pub taken : a ≡ n * min j 1 → Taken row store ahead store′ ahead′ out v h n k (a + b + c)
   taken ea =
       record {
         going = λ f t r l.
@@ -199,7 +201,10 @@ module _ (row store ahead ahead′ out mid store′ : List ℕ) (v h n k j a b c
             (lt-or-ge (j + 1) k);
         shut = λ f t r l. all-shut f n k v some mid ahead′ (amid f t r) store′ (rw e at (w .last l .1));
         mins = λ f t r. given f n k v some row store ahead t r ahead′ out j b e (fore-is f t r) g;
-        count = rw (ea, joins-is k v j some e, meets-is k v j some e store ahead′ out n b g, folds-is k v j some e mid store′ h n c vh w);
+        count =
+            let p = mul-add n (joins k v) (meets k (v + 1 - k) v) in
+            let q = mul-add n (joins k v + meets k (v + 1 - k) v) (folds k h v) in
+            rw (q, p, ea, joins-is k v j some e, meets-is k v j some e store ahead′ out n b g, folds-is k v j some e mid store′ h n c vh w);
       }
 
 -- ---- a step without one
@@ -209,7 +214,7 @@ module _ (store ahead out : List ℕ) (a h n k : ℕ) (some : 0 < k) (ah : a < h
   rest-block e o =
       record {
         mins = λ f t x u. o x u ∙ rw e (t .fore x u);
-        count = rw (le-ltb a (start k (h - 1)) (omega arith));
+        count = rw (le-ltb a (start k (h - 1)) (omega arith)) (sym (mul-zero n));
       }
 
   -- or a part of it
@@ -218,13 +223,13 @@ module _ (store ahead out : List ℕ) (a h n k : ℕ) (some : 0 < k) (ah : a < h
       let z : start k (h - 1) + (a - start k (h - 1)) ≡ a = omega arith in
       record {
         mins = λ f t x u. o x u ∙ rw z at (t .aft (a - start k (h - 1)) x (omega arith) u);
-        count = rw (le-ltb a (start k (h - 1)) (omega arith));
+        count = rw (le-ltb a (start k (h - 1)) (omega arith)) (sym (mul-zero n));
       }
 
   -- or lies in two
-  pub rest-two : a < start k (h - 1) → ((x : ℕ) → x < n → entry out x ≡ min (cell store n (a + k - start k (h - 1)) x) (entry ahead x))
-      → Rested store ahead out a h n k 1
-  rest-two l o =
+  pub rest-two : (r : ℕ) → a < start k (h - 1) → r ≡ n → ((x : ℕ) → x < n → entry out x ≡ min (cell store n (a + k - start k (h - 1)) x) (entry ahead x))
+      → Rested store ahead out a h n k r
+  rest-two r l e o =
       let low = start-le k some (h - 1) in
       let z : start k (h - 1) + (a + k - start k (h - 1)) - k ≡ a = omega arith in
       let y : suc (start k (h - 1) - 1) ≡ start k (h - 1) = omega arith in
@@ -233,14 +238,17 @@ module _ (store ahead out : List ℕ) (a h n k : ℕ) (some : 0 < k) (ah : a < h
             let b = t .before (a + k - start k (h - 1)) (omega arith) x (omega arith) (omega arith) u in
             let w = span-split min min-assoc (λ v. f v x) a (start k (h - 1) - 1) (h - 1) (omega arith) (omega arith) in
             o x u ∙ rw (rw z at b, t .fore x u) (sym (rw y at w));
-        count = rw (lt-ltb a (start k (h - 1)) l);
+        count = rw (lt-ltb a (start k (h - 1)) l) (e ∙ sym (mul-one n));
       }
 
 -- ---- any step
 -- a row takes few comparisons
-pub taken-few : (k h v a r : ℕ) → r ≡ joins k v + meets k a v + folds k h v → r ≤ 2 + v
-taken-few k h v a r e =
+pub taken-few : (n k h v a r : ℕ) → r ≡ n * (joins k v + meets k a v + folds k h v) → n ≤ 1024 → v < 1024 → r ≤ 1024 * 1025
+taken-few n k h v a r e u l =
+    let few : joins k v + meets k a v + folds k h v ≤ 1025 =
     omega (arith, cond-le (ltb (start k v) v) 1, cond-le (ltb a (start k v)) 1, cond-le (eqb v (stop k h v)) (v - start k v))
+    in
+    rw e (mul-le-mul u few)
 
 -- the window about row v - s
 module _ (s h v b : ℕ) (some : 0 < h) (few : v < h + s) (e : b ≡ min v (h - 1)) where
@@ -278,12 +286,14 @@ module _ (row store ahead store′ ahead′ out : List ℕ) (v h n s r : ℕ) (v
       let z : v + 1 - (2 * s + 1) ≡ v - 2 * s = omega arith in
       rw z at (t .mins f (d .going vh) (i vh) x u) ∙ window-is s h v v (omega arith) (omega arith) (omega arith) f x o
 
-  pub take-count : r ≡ downCount s h v
+  pub take-count : r ≡ n * downCount s h v
   unfolding downCount rowCount
   take-count =
       let z : v + 1 - (2 * s + 1) ≡ v - 2 * s = omega arith in
       let w = window-count s h v v (omega arith) (omega arith) (omega arith) in
-      rw (lt-ltb v h vh) (omega (arith, rw z at (t .count)))
+      let k : ℕ = 2 * s + 1 in
+      let same : joins k v + meets k (v - 2 * s) v + folds k h v ≡ joins k v + folds k h v + windowCount s h v = omega arith in
+      rw (lt-ltb v h vh, sym same) (rw z at (t .count))
 
 module _ (store ahead out : List ℕ) (v h n s r : ℕ) (some : 0 < h) (few : v < h + s) (hv : h ≤ v) (t : Rested store ahead out (v - 2 * s) h n (2 * s + 1) r) where
   pub rest-state : (f : Plane ℕ) → Down store ahead n s h f v → Down store ahead n s h f (v + 1)
@@ -292,11 +302,11 @@ module _ (store ahead out : List ℕ) (v h n s r : ℕ) (some : 0 < h) (few : v 
   pub rest-mins : (f : Plane ℕ) → Down store ahead n s h f v → s ≤ v → RowIs out (λ y x. windowed min (λ u. f u x) s h y) (v - s) n
   rest-mins f d o x u = t .mins f (d .shut some hv) x u ∙ window-is s h v (h - 1) some few (omega arith) f x o
 
-  pub rest-count : r ≡ downCount s h v
+  pub rest-count : r ≡ n * downCount s h v
   unfolding downCount
   rest-count =
-      let w = window-count s h v (h - 1) some few (omega arith) in
-      rw (le-ltb v h hv) (omega (arith, t .count))
+      let same : 0 + windowCount s h v ≡ meets (2 * s + 1) (v - 2 * s) (h - 1) = omega (arith, window-count s h v (h - 1) some few (omega arith)) in
+      rw (le-ltb v h hv, same) (t .count)
 
 -- ---- all steps together
 -- a whole block, with j its last row's place: t and t′ before and after that row, x and y what the block and those after it, and those after it, take
@@ -362,11 +372,8 @@ module _ (s h : ℕ) where
   -- the rows come in the first h steps
   rows-all : 0 < h → tally (λ v. cond (ltb v h) (rowCount (2 * s + 1) h v) 0) (h + s) ≡ inner (2 * s + 1) h
   rows-all l =
-      let F : ℕ → ℕ = λ v. cond (ltb v h) (rowCount (2 * s + 1) h v) 0 in
       let z : suc (h - 1) ≡ h = omega arith in
-      let none : tally (λ i. F (h + i)) s ≡ 0 = tally-zeros (λ i. F (h + i)) s (λ i u. rw (le-ltb (h + i) h (omega arith))) in
-      let all : tally F h ≡ tally (rowCount (2 * s + 1) h) h = tally-cong F (rowCount (2 * s + 1) h) h (λ i u. rw (lt-ltb i h u)) in
-      omega (arith, tally-split F h s, rw z at (rows-total (2 * s + 1) h (omega arith) (h - 1) z))
+      tally-while (rowCount (2 * s + 1) h) h s ∙ rw z at (rows-total (2 * s + 1) h (omega arith) (h - 1) z)
 
   -- the windows come out in the last h
   windows-all : tally (windowCount s h) (h + s) ≡ tally (crossing s h) h
@@ -385,9 +392,3 @@ module _ (s h : ℕ) where
   down-total l =
       tally-add (λ v. cond (ltb v h) (rowCount (2 * s + 1) h v) 0) (windowCount s h) (h + s)
       ∙ rw (rows-all l, windows-all, inner-is (2 * s + 1) (samples h), samples-length h)
-
-  -- so the steps so far take at most 3 a row
-  pub down-most : 0 < h → (v : ℕ) → v ≤ h + s → tally (downCount s h) v ≤ 3 * h
-  down-most l v u =
-      let z : v + (h + s - v) ≡ h + s = omega arith in
-      omega (arith, rw z at (tally-split (downCount s h) v (h + s - v)), down-total l, samples-at-most s h)

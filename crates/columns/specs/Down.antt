@@ -6,9 +6,9 @@ use Prim.Native.Nat.{ℕ, _+_, _-_, _*_, _≤_, _<_, min}
 use lib.Dec.{ltb, eqb}
 use lib.ListN.{getD}
 use Rattle.rules.specs.Window.{Plane}
+use Rattle.rules.specs.Count.{crossing, comparisons, samples}
 use Rattle.windows.specs.Span.{span}
 use Rattle.windows.specs.Blocks.{start, stop}
-use Rattle.windows.specs.Count.{crossing}
 use Rattle.windows.specs.Line.{entry}
 
 -- the first n entries are row y of f
@@ -56,16 +56,16 @@ pub record Folded (l m : List ℕ) (n i last : ℕ) : Type 0 where
   pub is : (j x : ℕ) → i ≤ j → j ≤ last → x < n → cell m n j x ≡ span min (λ u. cell l n u x) j last
   pub rest : (j : ℕ) → (i * n ≤ j → j < last * n → ⊥) → entry m j ≡ entry l j
 
--- out is the least over the k rows up to row v, j-th of its block, from the store and `ahead`, with r comparisons a column
+-- out is the least over the k rows up to row v, j-th of its block, from the store and `ahead`, with r comparisons
 pub record Given (store ahead out : List ℕ) (v j k n r : ℕ) : Type 0 where
   pub few : v < k → (r ≡ 0) × ((x : ℕ) → x < n → entry out x ≡ entry ahead x)
   pub whole : j + 1 ≡ k → (r ≡ 0) × ((x : ℕ) → x < n → entry out x ≡ entry ahead x)
-  pub two : k ≤ v → j + 1 < k → (r ≡ 1) × ((x : ℕ) → x < n → entry out x ≡ min (cell store n (j + 1) x) (entry ahead x))
+  pub two : k ≤ v → j + 1 < k → (r ≡ n) × ((x : ℕ) → x < n → entry out x ≡ min (cell store n (j + 1) x) (entry ahead x))
 
--- m is l, folded up to row j where row v, j-th of its block, is the block's last, with r comparisons a column
+-- m is l, folded up to row j where row v, j-th of its block, is the block's last, with r comparisons
 pub record Closed (l m : List ℕ) (v h j k n r : ℕ) : Type 0 where
-  pub full : j + 1 ≡ k → (r ≡ j) × Folded l m n 0 j
-  pub last : v + 1 ≡ h → (r ≡ j) × Folded l m n 0 j
+  pub full : j + 1 ≡ k → (r ≡ n * j) × Folded l m n 0 j
+  pub last : v + 1 ≡ h → (r ≡ n * j) × Folded l m n 0 j
   pub on : j + 1 < k → v + 1 < h → (r ≡ 0) × (m ≡ l)
 
 -- ---- what one column takes
@@ -93,15 +93,24 @@ windowCount s h v = cond (ltb v s) 0 (crossing s h (v - s))
 unfoldable pub downCount : ℕ → ℕ → ℕ → ℕ
 downCount s h v = cond (ltb v h) (rowCount (2 * s + 1) h v) 0 + windowCount s h v
 
+-- ---- what rows and columns take
+-- the comparisons along row v of w samples, while there is one
+unfoldable pub alongCount : ℕ → ℕ → ℕ → ℕ → ℕ
+alongCount s w h v = cond (ltb v h) (comparisons s (samples w)) 0
+
+-- and with those of all columns at step v
+unfoldable pub stepCount : ℕ → ℕ → ℕ → ℕ → ℕ
+stepCount s w h v = alongCount s w h v + w * downCount s h v
+
 -- ---- one step
--- row v has been taken, with r comparisons a column: the columns are before the next row, or at their end, and out is the least over the k rows up to v
+-- row v has been taken, with r comparisons: the columns are before the next row, or at their end, and out is the least over the k rows up to v
 pub record Taken (row store ahead store′ ahead′ out : List ℕ) (v h n k r : ℕ) : Type 0 where
   pub going : (f : Plane ℕ) → Open store ahead n k f v → RowIs row f v n → v + 1 < h → Open store′ ahead′ n k f (v + 1)
   pub shut : (f : Plane ℕ) → Open store ahead n k f v → RowIs row f v n → v + 1 ≡ h → Shut store′ ahead′ n k f v
   pub mins : (f : Plane ℕ) → Open store ahead n k f v → RowIs row f v n → (x : ℕ) → x < n → entry out x ≡ leastOf f x (v + 1 - k) v
-  pub count : r ≡ joins k v + meets k (v + 1 - k) v + folds k h v
+  pub count : r ≡ n * (joins k v + meets k (v + 1 - k) v + folds k h v)
 
--- out is the least over the rows from a to the last of h, with r comparisons a column
+-- out is the least over the rows from a to the last of h, with r comparisons
 pub record Rested (store ahead out : List ℕ) (a h n k r : ℕ) : Type 0 where
   pub mins : (f : Plane ℕ) → Shut store ahead n k f (h - 1) → (x : ℕ) → x < n → entry out x ≡ leastOf f x a (h - 1)
-  pub count : r ≡ meets k a (h - 1)
+  pub count : r ≡ n * meets k a (h - 1)

@@ -22,71 +22,80 @@ fn copy(out: &mut [u16], to: usize, row: &[u16], at: usize, n: usize)
     }
 }
 
-// Each entry becomes the lesser of it and the row's.
-fn extend(ahead: &mut [u16], row: &[u16], n: usize)
+// Each entry becomes the lesser of it and the row's. Returns the number of comparisons.
+fn extend(ahead: &mut [u16], row: &[u16], n: usize) -> usize
     requires { ⌜ (n ≤ length (now ahead)) × (n ≤ length (now row)) ⌝ }
-    ensures { λ _. ⌜ Written (λ x. min (entry (now (ahead .entry)) x) (entry (now (row .entry)) x)) (now (ahead .entry)) (now (ahead .exit)) 0 n ⌝ }
+    ensures { λ r. ⌜ (r ≡ n) × Written (λ x. min (entry (now (ahead .entry)) x) (entry (now (row .entry)) x)) (now (ahead .entry)) (now (ahead .exit)) 0 n ⌝ }
 {
+    let mut count = 0;
     let mut x = 0;
     while x < n {
         ahead[x] = lesser_u16(ahead[x], row[x]);
+        count += 1;
         x += 1;
     }
+    count
 }
 
-// Entry by entry, the lesser of the store's from `at` on and of `ahead`.
-fn both(out: &mut [u16], store: &[u16], at: usize, ahead: &[u16], n: usize)
+// Entry by entry, the lesser of the store's from `at` on and of `ahead`. Returns the number of comparisons.
+fn both(out: &mut [u16], store: &[u16], at: usize, ahead: &[u16], n: usize) -> usize
     requires { ⌜ (n ≤ length (now out)) × (at + n ≤ length (now store)) × (n ≤ length (now ahead)) ⌝ }
-    ensures { λ _. ⌜ Written (λ x. min (entry (now (store .entry)) (at + x)) (entry (now (ahead .entry)) x)) (now (out .entry)) (now (out .exit)) 0 n ⌝ }
+    ensures { λ r. ⌜ (r ≡ n) × Written (λ x. min (entry (now (store .entry)) (at + x)) (entry (now (ahead .entry)) x)) (now (out .entry)) (now (out .exit)) 0 n ⌝ }
 {
+    let mut count = 0;
     let mut x = 0;
     while x < n {
         out[x] = lesser_u16(store[at + x], ahead[x]);
+        count += 1;
         x += 1;
     }
+    count
 }
 
-// The row at `to` becomes, entry by entry, the lesser of it and of the next row.
-fn fold_row(store: &mut [u16], to: usize, n: usize)
+// The row at `to` becomes, entry by entry, the lesser of it and of the next row. Returns the number of comparisons.
+fn fold_row(store: &mut [u16], to: usize, n: usize) -> usize
     requires { ⌜ to + n + n ≤ length (now store) ⌝ }
-    ensures { λ _. ⌜ Laid (λ x. min (entry (now (store .entry)) (to + x)) (entry (now (store .entry)) (to + n + x))) (now (store .entry)) (now (store .exit)) to n ⌝ }
+    ensures { λ r. ⌜ (r ≡ n) × Laid (λ x. min (entry (now (store .entry)) (to + x)) (entry (now (store .entry)) (to + n + x))) (now (store .entry)) (now (store .exit)) to n ⌝ }
 {
     let next = to + n;
+    let mut count = 0;
     let mut x = 0;
     while x < n {
         store[to + x] = lesser_u16(store[to + x], store[next + x]);
+        count += 1;
         x += 1;
     }
+    count
 }
 
-// Each row up to `last` becomes the least from it to `last`. Returns the comparisons of one column.
+// Each row up to `last` becomes the least from it to `last`. Returns the number of comparisons.
 fn fold(store: &mut [u16], last: usize, n: usize) -> usize
     requires { ⌜ last * n + n ≤ length (now store) ⌝ }
-    ensures { λ r. ⌜ (r ≡ last) × Folded (now (store .entry)) (now (store .exit)) n 0 last ⌝ }
+    ensures { λ r. ⌜ (r ≡ n * last) × Folded (now (store .entry)) (now (store .exit)) n 0 last ⌝ }
 {
+    let mut count = 0;
     let mut j = last;
     while 0 < j {
         j -= 1;
-        fold_row(store, j * n, n);
+        count += fold_row(store, j * n, n);
     }
-    last
+    count
 }
 
-// The row, j-th of its block, is joined to the least of those before it in the block.
+// The row, j-th of its block, is joined to the least of those before it in the block. Returns the number of comparisons.
 fn join(ahead: &mut [u16], row: &[u16], n: usize, j: usize) -> usize
     requires { ⌜ (n ≤ length (now ahead)) × (n ≤ length (now row)) ⌝ }
-    ensures { λ r. ⌜ (r ≡ min j 1) × ((x : ℕ) → x < n → j ≡ 0 → entry (now (ahead .exit)) x ≡ entry (now (row .entry)) x)
+    ensures { λ r. ⌜ (r ≡ n * min j 1) × ((x : ℕ) → x < n → j ≡ 0 → entry (now (ahead .exit)) x ≡ entry (now (row .entry)) x)
         × ((x : ℕ) → x < n → 0 < j → entry (now (ahead .exit)) x ≡ min (entry (now (ahead .entry)) x) (entry (now (row .entry)) x)) ⌝ }
 {
     if j == 0 {
         copy(ahead, 0, row, 0, n);
         return 0;
     }
-    extend(ahead, row, n);
-    1
+    extend(ahead, row, n)
 }
 
-// The least over the k rows up to row v, j-th of its block, or over all where they are fewer. Returns the comparisons of one column.
+// The least over the k rows up to row v, j-th of its block, or over all where they are fewer. Returns the number of comparisons.
 fn give(
     v: usize,
     j: usize,
@@ -107,11 +116,10 @@ fn give(
         copy(out, 0, ahead, 0, n);
         return 0;
     }
-    both(out, store, (j + 1) * n, ahead, n);
-    1
+    both(out, store, (j + 1) * n, ahead, n)
 }
 
-// The block's rows are folded where row v, the j-th, is its last. Returns the comparisons of one column.
+// The block's rows are folded where row v, the j-th, is its last. Returns the number of comparisons.
 fn close(v: usize, h: usize, j: usize, k: usize, n: usize, store: &mut [u16]) -> usize
     requires { ⌜ (v < h) × (h ≤ 1024) × (j < k) × (k ≤ 61) × (n ≤ 1024) × (k * n ≤ length (now store)) ⌝ }
     ensures { λ r. ⌜ Closed (now (store .entry)) (now (store .exit)) v h j k n r ⌝ }
@@ -126,7 +134,7 @@ fn close(v: usize, h: usize, j: usize, k: usize, n: usize, store: &mut [u16]) ->
 }
 
 // Row v comes: it is joined to its block, the least over the k rows up to it come out, it is stored, and a whole block is folded.
-// Returns the comparisons of one column.
+// Returns the number of comparisons.
 fn take(
     row: &[u16],
     v: usize,
@@ -149,7 +157,7 @@ fn take(
     a + b + c
 }
 
-// After the last row: the least over the rows from a on. Returns the comparisons of one column.
+// After the last row: the least over the rows from a on. Returns the number of comparisons.
 fn rest(
     a: usize,
     h: usize,
@@ -171,12 +179,11 @@ fn rest(
         copy(out, 0, store, (a - c) * n, n);
         return 0;
     }
-    both(out, store, (a + k - c) * n, ahead, n);
-    1
+    both(out, store, (a + k - c) * n, ahead, n)
 }
 
 // Step v of h + s: row v of h goes down the n columns while there is one, and from step s on the least over the columns' windows of radius s about row
-// v - s come out. `store` and `ahead` are kept from step to step. Returns the comparisons of one column.
+// v - s come out. `store` and `ahead` are kept from step to step. Returns the number of comparisons.
 pub fn down(
     row: &[u16],
     v: usize,
@@ -193,7 +200,7 @@ pub fn down(
         → Down (now (store .exit)) (now (ahead .exit)) n s h f (v + 1)) ⌝ }
     ensures mins { λ _. ⌜ ((f : Plane ℕ) → Down (now (store .entry)) (now (ahead .entry)) n s h f v → (v < h → RowIs (now (row .entry)) f v n)
         → s ≤ v → RowIs (now (out .exit)) (λ y x. windowed min (λ u. f u x) s h y) (v - s) n) ⌝ }
-    ensures count { λ r. ⌜ r ≡ downCount s h v ⌝ }
+    ensures count { λ r. ⌜ r ≡ n * downCount s h v ⌝ }
 {
     let k = 2 * s + 1;
     if v < h {

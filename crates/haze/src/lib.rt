@@ -1,16 +1,17 @@
 // The public calls. None asks anything of its caller: each promises, for every input, what it answers and what stands in the lent memory afterwards.
 ghost use Prim.Native.Nat.{ℕ};
 ghost use Rattle.rules.specs.Setup.{handed};
-ghost use Rattle.rules.specs.Promise.{lentOf, Lights, Clears, Replaces, Hazes, Bands};
+ghost use Rattle.rules.specs.Promise.{lentOf, Lights, Clears, Replaces, Hazes, Bands, Budgets};
 use rules::Answer;
 use rules::Band;
 use rules::Found;
+use rules::Outcome;
 use rules::Rect;
 use rules::Rgb;
 use rules::Settings;
 use rules::Size;
 
-// Light: the ambient light of a frame.
+// Light: the ambient light of a frame, and how many comparisons the dark channel took.
 pub fn light(z: Size, k: Settings, mask: &[u8], frame: &[u8], work: &mut [i64]) -> Found
     ensures { λ r. ⌜ Lights z k (now (mask .entry)) (now (frame .entry)) (now (work .entry)) r (now (work .exit)) ⌝ }
 {
@@ -21,7 +22,7 @@ pub fn light(z: Size, k: Settings, mask: &[u8], frame: &[u8], work: &mut [i64]) 
     Found::Light(light::find(z, k, mask, frame, work))
 }
 
-// Clear: the transmission map and the cleared frame.
+// Clear: the transmission map and the cleared frame, and how many comparisons the dark channel took.
 pub fn clear(
     z: Size,
     k: Settings,
@@ -31,7 +32,7 @@ pub fn clear(
     map: &mut [u16],
     picture: &mut [u8],
     work: &mut [i64],
-) -> Answer
+) -> Outcome
     ensures { λ r. ⌜ Clears (handed z k a (now (mask .entry)))
         (lentOf (now (frame .entry)) (now (map .entry)) (now (picture .entry)) (now (work .entry))) r
         (lentOf (now (frame .entry)) (now (map .exit)) (now (picture .exit)) (now (work .exit))) ⌝ }
@@ -47,10 +48,10 @@ pub fn clear(
         work.len(),
     );
     if n != 0 {
-        return Answer::Refused(n);
+        return Outcome::Refused(n);
     }
-    clearing::clear_whole(map, picture, mask, frame, work, z, k, a);
-    Answer::Done
+    let count = clearing::clear_whole(map, picture, mask, frame, work, z, k, a);
+    Outcome::Done(count as u64)
 }
 
 // Replace: the new pixels go into the frame, and map and cleared frame are brought up to date.
@@ -65,7 +66,7 @@ pub fn replace(
     map: &mut [u16],
     picture: &mut [u8],
     work: &mut [i64],
-) -> Answer
+) -> Outcome
     ensures { λ r. ⌜ Replaces (handed z k a (now (mask .entry))) c (now (new .entry))
         (lentOf (now (frame .entry)) (now (map .entry)) (now (picture .entry)) (now (work .entry))) r
         (lentOf (now (frame .exit)) (now (map .exit)) (now (picture .exit)) (now (work .exit))) ⌝ }
@@ -83,10 +84,10 @@ pub fn replace(
         work.len(),
     );
     if n != 0 {
-        return Answer::Refused(n);
+        return Outcome::Refused(n);
     }
-    clearing::replace_whole(mask, frame, map, picture, work, z, k, a, c, new);
-    Answer::Done
+    let count = clearing::replace_whole(mask, frame, map, picture, work, z, k, a, c, new);
+    Outcome::Done(count as u64)
 }
 
 // Haze: clean frame, light and transmission map in; hazy frame out.
@@ -110,4 +111,11 @@ pub fn band(z: Size, map: &[u16], from: usize, to: usize) -> Band
         return Band::Refused(n);
     }
     Band::Figure(bands::figure(z, map, from, to))
+}
+
+// Budget: how many comparisons the dark channel takes for a frame of this size at radius s; 0 for a size or radius that is refused.
+pub fn comparisons(z: Size, s: usize) -> u64
+    ensures { λ r. ⌜ Budgets z s r ⌝ }
+{
+    budget::comparisons(z, s)
 }

@@ -16,7 +16,7 @@ use Rattle.ppm.specs.declared.Taken.{Taken}
 use Rattle.ppm.specs.declared.Taken.the-variants as taken
 use Rattle.ppm.specs.Promise.{size, pixels, refuseSize, refuseRead, frameOr, takenSaid, Sizes, Reads, Writes}
 use Rattle.boundary.specs.Returns.{Returns}
-use Rattle.boundary.proofs.Told.{answered-returns, valued-returns, unless-both}
+use Rattle.boundary.proofs.Told.{answered-returns, valued-returns, both-return}
 use Rattle.haze_files_c.specs.Depths.{DepthsReturns}
 use Rattle.haze_files_c.specs.Netpbm.{sizeAfter, SizeReturns, readPlaces, ReadReturns, WriteReturns, Heading, heading, HeaderReturns}
 
@@ -51,8 +51,7 @@ module _ {r : Taken} {n : ℕ} {z p : Size} (told : (n ≡ takenSaid r) × (z �
   pub read-returns : {s f v : List ℕ} → Reads s f r v → ReadReturns s (readPlaces f p) n (readPlaces v z)
   read-returns {s} {f} q =
       let k = refuseRead s (length f) in
-      let e = taken-returns k (size s) (q .answer) in
-      record { number = e .number; after = rw (q .after, e .after) (unless-both readPlaces k (pixels s) f (size s) p) }
+      both-return readPlaces k (pixels s) f (size s) p (q .after) (taken-returns k (size s) (q .answer))
 
 -- ---- a header
 

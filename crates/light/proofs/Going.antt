@@ -7,11 +7,12 @@ use lib.ListN.{length}
 use lib.IntN.{ℤ}
 use Rattle.rules.specs.Shape.{Shape}
 use Rattle.columns.specs.Down.{Down}
+use Rattle.columns.proofs.Counted.{Counted}
 use Rattle.light.specs.Steps.{Starts, leastAlong, levelAt, DarkTo}
 use Rattle.light.proofs.Areas.{dark-none}
 
 -- l is the work area as it came, m as it is before row i goes down the columns
-pub record Going (z : Shape) (s : ℕ) (mask frame : List ℕ) (l m : List ℤ) (apart tops row p q store ahead out levels : List ℕ) (i : ℕ) : Type 0 where
+pub record Going (z : Shape) (s : ℕ) (mask frame : List ℕ) (l m : List ℤ) (apart tops row p q store ahead out levels : List ℕ) (count i : ℕ) : Type 0 where
   pub most : i ≤ z .h + s
   pub long : length m ≡ length l
   pub apart-long : length apart ≡ 1028
@@ -25,6 +26,7 @@ pub record Going (z : Shape) (s : ℕ) (mask frame : List ℕ) (l m : List ℤ) 
   pub levels-long : length levels ≡ 1024
   pub columns : Down store ahead (z .w) s (z .h) (leastAlong z s mask frame) i
   pub given : DarkTo z (levelAt z s mask frame) l m apart tops (i - s)
+  pub counted : Counted s (z .w) (z .h) count i
 
 -- no row is given before step s
 pub given-start : (z : Shape) (s : ℕ) (mask frame : List ℕ) (l : List ℤ) (apart tops : List ℕ) → Starts (λ v. 0) 1028 apart

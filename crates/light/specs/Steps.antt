@@ -10,10 +10,11 @@ use Rattle.rules.specs.Shape.{Shape, described}
 use Rattle.rules.specs.declared.Size.{Size}
 use Rattle.rules.specs.declared.Settings.{Settings}
 use Rattle.rules.specs.declared.Rgb.{Rgb}
+use Rattle.rules.specs.declared.Finding.{Finding}
 use Rattle.rules.specs.Window.{Plane, from, total}
 use Rattle.rules.specs.Light.{darkest, dark, at, guide, count, keep, best, brightest, lifted, light}
 use Rattle.rules.specs.Buffers.{pixelAt, pixels, seenIn, masked}
-use Rattle.rules.specs.Promise.{wiped}
+use Rattle.rules.specs.Promise.{wiped, finding}
 use Rattle.planes.specs.Cells.{SameFrom}
 use Rattle.windows.specs.Span.{windowed}
 use Rattle.light.specs.declared.Cut.{Cut}
@@ -163,7 +164,7 @@ pub record Picked (z : Size) (k : Settings) (mask frame : List ℕ) (r : ℕ) : 
   pub inside : r < z .w * z .h
   pub gives : lifted (pixelAt frame r) ≡ light (described z) k (masked (described z) mask frame)
 
--- the light, and the work area wiped
-pub record Finds (z : Size) (k : Settings) (mask frame : List ℕ) (work : List ℤ) (r : Rgb) (work′ : List ℤ) : Type 0 where
-  pub found : r ≡ light (described z) k (masked (described z) mask frame)
+-- the light and the comparisons, and the work area wiped
+pub record Finds (z : Size) (k : Settings) (mask frame : List ℕ) (work : List ℤ) (r : Finding) (work′ : List ℤ) : Type 0 where
+  pub found : r ≡ finding z k mask frame
   pub after : work′ ≡ wiped (described z) work

@@ -10,10 +10,12 @@ ghost use lib.IntN.{ℤ, pos};
 ghost use Rattle.rules.specs.Shape.{described};
 ghost use Rattle.rules.specs.Light.{darkest, lifted, guide};
 ghost use Rattle.rules.specs.Buffers.{pixelAt};
+ghost use Rattle.rules.specs.Count.{frameComparisons};
 ghost use Rattle.rules.specs.Good.{GoodSize, AcceptedLight};
 ghost use Rattle.planes.specs.Cells.{SameFrom};
-ghost use Rattle.columns.specs.Down.{RowIs};
+ghost use Rattle.columns.specs.Down.{RowIs, alongCount};
 ghost use Rattle.light.specs.Steps.{value, leastBy, levelBy, Levels, Starts, Below, hits, lane, Few, joined, atLeast, CutAt, next, Walked, Walkable, Chosen, Topped, leastAlong, RowPut, DarkTo, Darkened, Picked, Finds};
+use rules::Finding;
 use rules::Rgb;
 use rules::Settings;
 use rules::Size;
@@ -85,7 +87,7 @@ fn least_row(row: &mut [u16], mask: &[u8], frame: &[u8], p: usize, n: usize)
     }
 }
 
-// Step i of the minimum has row i of the frame, if there is one: its least bytes, each over its window along the row.
+// Step i of the minimum has row i of the frame, if there is one: its least bytes, each over its window along the row. Returns the number of comparisons.
 fn take_row(
     mask: &[u8],
     frame: &[u8],
@@ -95,18 +97,19 @@ fn take_row(
     row: &mut [u16],
     p: &mut [u16],
     q: &mut [u16],
-)
+) -> usize
     requires { ⌜ GoodSize (described z) × (s ≤ 30) × (length (now mask) ≡ z .w * z .h) × (length (now frame) ≡ 3 * (z .w * z .h)) ⌝ }
     requires { ⌜ (length (now row) ≡ 1024) × (length (now p) ≡ 1024) × (length (now q) ≡ 1024) ⌝ }
-    ensures { λ _. ⌜ (i < z .h → RowIs (now (row .exit)) (leastAlong (described z) s (now (mask .entry)) (now (frame .entry))) i (z .w)) ⌝ }
+    ensures mins { λ _. ⌜ (i < z .h → RowIs (now (row .exit)) (leastAlong (described z) s (now (mask .entry)) (now (frame .entry))) i (z .w)) ⌝ }
+    ensures count { λ r. ⌜ r ≡ alongCount s (z .w) (z .h) i ⌝ }
 {
     let w = z.w;
     let h = z.h;
     if h <= i {
-        return;
+        return 0;
     }
     least_row(row, mask, frame, i * w, w);
-    windows::shrink(row, w, s, p, q);
+    windows::shrink(row, w, s, p, q)
 }
 
 // The level of a pixel of dark value d, 0 where the byte m hides it.
@@ -207,7 +210,8 @@ fn give_row(
     tops[y] = greatest(levels, w);
 }
 
-// The level of each pixel, at the work area's start, with the counts in their lanes, all 0 before, and a bound of each row.
+// The level of each pixel, at the work area's start, with the counts in their lanes, all 0 before, and a bound of each row. Returns the number of comparisons
+// of the minimum.
 fn darks(
     z: Size,
     k: Settings,
@@ -216,10 +220,11 @@ fn darks(
     work: &mut [i64],
     apart: &mut [u32],
     tops: &mut [u16],
-)
+) -> usize
     requires { ⌜ AcceptedLight z k (now mask) (length (now frame)) (length (now work)) × (length (now apart) ≡ 1028) × (length (now tops) ≡ 1024) × Starts (λ v. 0) 1028 (now apart) ⌝ }
     ensures dark { λ _. ⌜ Darkened z k (now (mask .entry)) (now (frame .entry)) (now (work .exit)) (now (apart .exit)) (now (tops .exit)) ⌝ }
     ensures rest { λ _. ⌜ SameFrom (now (work .entry)) (now (work .exit)) (z .w * z .h) ⌝ }
+    ensures count { λ r. ⌜ r ≡ frameComparisons (described z) (k .s) ⌝ }
 {
     let mut row = [0u16; 1024];
     let mut p = [0u16; 1024];
@@ -231,10 +236,11 @@ fn darks(
     let w = z.w;
     let h = z.h;
     let s = k.s;
+    let mut count = 0;
     let mut i = 0;
     while i < h + s {
-        take_row(mask, frame, z, i, s, &mut row[..], &mut p[..], &mut q[..]);
-        columns::down(
+        count += take_row(mask, frame, z, i, s, &mut row[..], &mut p[..], &mut q[..]);
+        count += columns::down(
             &row[..],
             i,
             h,
@@ -247,6 +253,7 @@ fn darks(
         give_row(work, mask, z, i, s, &out[..], &mut levels[..], apart, tops);
         i += 1;
     }
+    count
 }
 
 // The level at p.
@@ -440,8 +447,8 @@ fn pick(
     choose(frame, work, z, cut, tops)
 }
 
-// The light of a frame, for a call that is not refused. The work area is wiped.
-pub fn find(z: Size, k: Settings, mask: &[u8], frame: &[u8], work: &mut [i64]) -> Rgb
+// The light of a frame and the comparisons of the minimum, for a call that is not refused. The work area is wiped.
+pub fn find(z: Size, k: Settings, mask: &[u8], frame: &[u8], work: &mut [i64]) -> Finding
     requires { ⌜ AcceptedLight z k (now mask) (length (now frame)) (length (now work)) ⌝ }
     ensures { λ r. ⌜ Finds z k (now (mask .entry)) (now (frame .entry)) (now (work .entry)) r (now (work .exit)) ⌝ }
 {
@@ -449,8 +456,11 @@ pub fn find(z: Size, k: Settings, mask: &[u8], frame: &[u8], work: &mut [i64]) -
     let h = z.h;
     let mut apart = [0u32; 1028];
     let mut tops = [0u16; 1024];
-    darks(z, k, mask, frame, work, &mut apart[..], &mut tops[..]);
+    let count = darks(z, k, mask, frame, work, &mut apart[..], &mut tops[..]);
     let p = pick(z, k, mask, frame, &work[..], &apart[..], &tops[..]);
     planes::wipe(work, 8 * ((w + 1) * (h + 1)));
-    colour(frame, p)
+    Finding {
+        light: colour(frame, p),
+        comparisons: count as u64,
+    }
 }

@@ -14,13 +14,14 @@ use Rattle.rules.specs.declared.Size.{Size}
 use Rattle.rules.specs.declared.Settings.{Settings}
 use Rattle.rules.specs.declared.Rgb.{Rgb}
 use Rattle.rules.specs.declared.Rect.{Rect}
-use Rattle.rules.specs.declared.Answer.{Answer}
+use Rattle.rules.specs.declared.Outcome.{Outcome}
 use Rattle.rules.specs.declared.Found.{Found}
 use Rattle.rules.specs.Light.{light}
 use Rattle.rules.specs.Setup.{handed}
 use Rattle.rules.specs.Buffers.{pixels, masked, State}
 use Rattle.rules.specs.Refusals.{first, badSize, badSettings, badFrame, badMap, badMask, badWork, badLight, badRect, badNew, badSeen, refuseLight, refuseClear, refuseReplace}
-use Rattle.rules.specs.Promise.{Lent, state, lent, answered, foundOr, unless, wiped, noLight, noClear, noReplace, Lights, Clears, Replaces}
+use Rattle.rules.specs.Count.{frameComparisons, partComparisons, clearComparisons, replaceComparisons}
+use Rattle.rules.specs.Promise.{Lent, state, lent, outcomeOr, foundOr, findingOf, unless, wiped, noLight, noClear, noReplace, Lights, Clears, Replaces}
 use Rattle.rules.proofs.Good.{size-good, settings-good, seen-none}
 use Rattle.rules.proofs.Exactly.{light-exact}
 use Rattle.rules.proofs.UnseenCalls.{found-same}
@@ -85,7 +86,7 @@ pub record Whole (z : Size) (mask : List ℕ) : Type 0 where
 module _ (z : Size) (k : Settings) (frame : List ℕ) (work : List ℤ) where
   -- what it answers, and leaves in the work area
   pub record LightsAll (r : Found) (work′ : List ℤ) : Type 0 where
-    pub answer : r ≡ foundOr (refuseLightAll z k frame work) (lightAll (described z) k (pixels (described z) frame))
+    pub answer : r ≡ foundOr (refuseLightAll z k frame work) (findingOf (lightAll (described z) k (pixels (described z) frame)) (frameComparisons (described z) (k .s)))
     pub after : work′ ≡ unless (refuseLightAll z k frame work) (wiped (described z) work) work
 
   pub lights-all : (mask : List ℕ) (r : Found) (work′ : List ℤ) → Whole z mask → Lights z k mask frame work r work′ → LightsAll r work′
@@ -98,7 +99,7 @@ module _ (z : Size) (k : Settings) (frame : List ℕ) (work : List ℤ) where
       let g = size-good z (free .0) in
       all-light (described z) mask (w .seen) frame k (mul-pos (g .across) (g .down)) (settings-good k (free .1 .0) .share-most) in
       record {
-        answer = q .answer ∙ found-same (noLight z k mask frame work) _ _ same ∙ ap (λ (i : ℕ). foundOr i (lightAll (described z) k f)) n;
+        answer = q .answer ∙ found-same (noLight z k mask frame work) _ _ _ same ∙ ap (λ (i : ℕ). foundOr i (findingOf (lightAll (described z) k f) (frameComparisons (described z) (k .s)))) n;
         after = q .after ∙ ap (λ (i : ℕ). unless i (wiped (described z) work) work) n;
       }
 
@@ -112,34 +113,34 @@ module _ (z : Size) (k : Settings) (frame : List ℕ) (work : List ℤ) where
 -- ---- Clear and Replace
 
 module _ (z : Size) (k : Settings) (a : Rgb) (l : Lent) where
-  -- what a call answers and leaves, by its number and the state that it leaves when it is accepted
-  pub record Left (n : ℕ) (s : State) (r : Answer) (m : Lent) : Type 0 where
-    pub answer : r ≡ answered n
+  -- what a call answers and leaves, by its number and the comparisons and the state of one that is accepted
+  pub record Left (n count : ℕ) (s : State) (r : Outcome) (m : Lent) : Type 0 where
+    pub answer : r ≡ outcomeOr n count
     pub after : m ≡ unless n (lent s (wiped (described z) (l .work))) l
 
-  pub clears-all : (mask : List ℕ) (r : Answer) (m : Lent) → Whole z mask → Clears (handed z k a mask) l r m
-      → Left (refuseClearAll z k a l) (clearAll (described z) k a (l .frame)) r m
+  pub clears-all : (mask : List ℕ) (r : Outcome) (m : Lent) → Whole z mask → Clears (handed z k a mask) l r m
+      → Left (refuseClearAll z k a l) (frameComparisons (described z) (k .s)) (clearAll (described z) k a (l .frame)) r m
   unfolding refuseClear
   clears-all mask r m w q =
       let p = handed z k a mask in
       let n : noClear p l ≡ refuseClearAll z k a l = rw (mask-fits z (length mask) (w .long)) in
       record {
-        answer = q .answer ∙ ap answered n;
+        answer = q .answer ∙ ap (λ (i : ℕ). outcomeOr i (clearComparisons p)) n;
         after = q .after ∙ ap₂ (λ (i : ℕ) (s : State). unless i (lent s (wiped (described z) (l .work))) l) n (all-clear p (w .seen) (l .frame));
       }
 
-  pub replaces-all : (c : Rect) (new mask : List ℕ) (r : Answer) (m : Lent) → Whole z mask → Replaces (handed z k a mask) c new l r m
-      → Left (refuseReplaceAll z k a c new l) (replaceAll (described z) k a c new (state l)) r m
+  pub replaces-all : (c : Rect) (new mask : List ℕ) (r : Outcome) (m : Lent) → Whole z mask → Replaces (handed z k a mask) c new l r m
+      → Left (refuseReplaceAll z k a c new l) (partComparisons (described z) k c) (replaceAll (described z) k a c new (state l)) r m
   unfolding refuseReplace
   replaces-all c new mask r m w q =
       let p = handed z k a mask in
       let n : noReplace p c new l ≡ refuseReplaceAll z k a c new l = rw (mask-fits z (length mask) (w .long)) in
       record {
-        answer = q .answer ∙ ap answered n;
+        answer = q .answer ∙ ap (λ (i : ℕ). outcomeOr i (replaceComparisons p c)) n;
         after = q .after ∙ ap₂ (λ (i : ℕ) (s : State). unless i (lent s (wiped (described z) (l .work))) l) n (all-replace p (w .seen) c new (state l));
       }
 
-  pub clears-either : (mask mask′ : List ℕ) (r r′ : Answer) (m m′ : Lent) → Whole z mask → Whole z mask′ → Clears (handed z k a mask) l r m → Clears (handed z k a mask′) l r′ m′
+  pub clears-either : (mask mask′ : List ℕ) (r r′ : Outcome) (m m′ : Lent) → Whole z mask → Whole z mask′ → Clears (handed z k a mask) l r m → Clears (handed z k a mask′) l r′ m′
       → (r ≡ r′) × (m ≡ m′)
   clears-either mask mask′ r r′ m m′ w w′ q q′ =
       let b = clears-all mask r m w q in
@@ -147,7 +148,7 @@ module _ (z : Size) (k : Settings) (a : Rgb) (l : Lent) where
       (cc, cc)
 
   pub replaces-either :
-      (c : Rect) (new mask mask′ : List ℕ) (r r′ : Answer) (m m′ : Lent)
+      (c : Rect) (new mask mask′ : List ℕ) (r r′ : Outcome) (m m′ : Lent)
       → Whole z mask
       → Whole z mask′
       → Replaces (handed z k a mask) c new l r m

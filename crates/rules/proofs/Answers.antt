@@ -2,12 +2,14 @@
 -- the call's number n, where m is the rules' number. Assumes nothing.
 use mathlib.Core.Path.{_≡_, refl, sym, ap, _∙_}
 use Prim.Native.Nat.{ℕ, zero, suc}
-use Rattle.rules.specs.declared.Rgb.{Rgb}
+use Rattle.rules.specs.declared.Finding.{Finding}
 use Rattle.rules.specs.declared.Figure.{Figure}
 use Rattle.rules.specs.declared.Answer.the-variants as answer
+use Rattle.rules.specs.declared.Outcome.{Outcome}
+use Rattle.rules.specs.declared.Outcome.the-variants as outcome
 use Rattle.rules.specs.declared.Found.the-variants as found
 use Rattle.rules.specs.declared.Band.the-variants as band
-use Rattle.rules.specs.Promise.{or, answered, foundOr, figureOr, said, foundSaid, bandSaid, unless}
+use Rattle.rules.specs.Promise.{or, answered, outcomeOr, foundOr, figureOr, said, outcomeSaid, foundSaid, bandSaid, unless}
 
 -- ---- any answer
 
@@ -39,7 +41,10 @@ module _ {A B : Type 0} (ok : B → A) (bad : ℕ → A) where
 pub said-answered : (n : ℕ) → said (answered n) ≡ n
 said-answered n = or-said (λ (v : Unit {0}). answer.Done) answer.Refused said (λ v. refl) (λ n. refl) n tt
 
-pub said-found : (n : ℕ) (a : Rgb) → foundSaid (foundOr n a) ≡ n
+pub said-outcome : (n count : ℕ) → outcomeSaid (outcomeOr n count) ≡ n
+said-outcome = or-said outcome.Done outcome.Refused outcomeSaid (λ c. refl) (λ n. refl)
+
+pub said-found : (n : ℕ) (a : Finding) → foundSaid (foundOr n a) ≡ n
 said-found = or-said found.Light found.Refused foundSaid (λ a. refl) (λ n. refl)
 
 pub said-band : (n : ℕ) (f : Figure) → bandSaid (figureOr n f) ≡ n
@@ -54,6 +59,9 @@ done m = or-done (λ (v : Unit {0}). answer.Done) answer.Refused m tt
 -- a call that is done was not refused
 pub done-free : (n : ℕ) → answered n ≡ answer.Done → n ≡ 0
 done-free n e = sym (said-answered n) ∙ ap said e
+
+pub outcome-free : (n count : ℕ) (r : Outcome) → r ≡ outcomeOr n count → outcomeSaid r ≡ 0 → n ≡ 0
+outcome-free n count r e d = sym (said-outcome n count) ∙ ap outcomeSaid (sym e) ∙ d
 
 -- ---- a buffer: what stood there, or the new value
 

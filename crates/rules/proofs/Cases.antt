@@ -1,4 +1,4 @@
--- P1 to P11 and our own rows: one statement over the whole table, and one over the rows under a mask. Each is computed as one test, which is quick to see that
+-- P1 to P11 and our own rows: one statement over the whole table, one over the rows under a mask and one over those of the comparisons. Each is computed as one test, which is quick to see that
 -- a wrong definition fails it, and the test means that each row has what is wanted. Assumes nothing.
 use mathlib.Core.Path.{_≡_, refl, sym, ap, ap₂, _∙_}
 use mathlib.Core.Bool.{Bool, true, false, _&&_, true≢false}
@@ -17,6 +17,8 @@ use Rattle.rules.specs.Buffers.{pixels, seenIn, masked, bytes, values, e
 use Rattle.rules.specs.Refusals.{badSize, badSettings, badFrame, badMap, badMask, badWork, badLight, badRect, badBand, badNew, badEntries, badSeen, refuseLight, refuseClear, refuseReplace, refuseHaze, refuseBand}
 use Rattle.rules.specs.Cases.{Row, table}
 use Rattle.rules.specs.CasesMask.{maskTable}
+use Rattle.rules.specs.Count.{blocksIn, inBlocks, crossing, tally, comparisons, samples, frameComparisons}
+use Rattle.rules.specs.CasesCount.{countTable}
 
 -- ---- a row that agrees has what is wanted: a test that is computed, and what it means
 
@@ -64,8 +66,15 @@ computed-masked : agree maskTable ≡ true
 unfolding maskTable window square dark rank candidates light coarse sample line fit refine refined mapEntry recover recover3 cleared pixels seenIn masked bytes values entries near patch placed clear replace badSize badSettings badFrame badMap badMask badWork badLight badRect badNew badSeen refuseLight refuseClear refuseReplace
 computed-masked = refl
 
+computed-counts : agree countTable ≡ true
+unfolding countTable blocksIn inBlocks crossing tally comparisons samples frameComparisons
+computed-counts = refl
+
 pub cases : map (λ (c : Row). c .got) table ≡ map (λ (c : Row). c .want) table
 cases = agree-is table computed
 
 pub cases-masked : map (λ (c : Row). c .got) maskTable ≡ map (λ (c : Row). c .want) maskTable
 cases-masked = agree-is maskTable computed-masked
+
+pub cases-counted : map (λ (c : Row). c .got) countTable ≡ map (λ (c : Row). c .want) countTable
+cases-counted = agree-is countTable computed-counts

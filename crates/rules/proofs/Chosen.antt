@@ -14,11 +14,12 @@ use Rattle.rules.specs.Shape.{Shape, described}
 use Rattle.rules.specs.declared.Size.{Size}
 use Rattle.rules.specs.declared.Settings.{Settings}
 use Rattle.rules.specs.declared.Rgb.{Rgb}
+use Rattle.rules.specs.declared.Finding.{Finding}
 use Rattle.rules.specs.declared.Found.the-variants as found
 use Rattle.rules.specs.Window.{Plane, Shown}
 use Rattle.rules.specs.Buffers.{masked}
 use Rattle.rules.specs.Refusals.{badMask, badWork, badSeen}
-use Rattle.rules.specs.Promise.{foundSaid, noLight, Lights}
+use Rattle.rules.specs.Promise.{foundSaid, finding, noLight, Lights}
 use Rattle.rules.proofs.Buffers.{at-masked}
 use Rattle.rules.proofs.Good.{SomeSeen, neither, settings-good, mask-good, seen-good}
 use Rattle.rules.proofs.Exactly.{light-exact}
@@ -167,17 +168,16 @@ places-of z mask frame n s =
 
 -- of a call that keeps its promise and is not refused
 pub lights-chosen :
-    (z : Size) (k : Settings) (mask frame : List ℕ) (work work′ : List ℤ) (a : Rgb)
+    (z : Size) (k : Settings) (mask frame : List ℕ) (work work′ : List ℤ) (a : Finding)
     → Lights z k mask frame work (found.Light a) work′
-    → (p : ℕ) × Chosen (described z) k (masked (described z) mask frame) p a
+    → (p : ℕ) × Chosen (described z) k (masked (described z) mask frame) p (a .light)
 lights-chosen z k mask frame work work′ a q =
     let n = noLight z k mask frame work in
     let f = masked (described z) mask frame in
-    let b = light (described z) k f in
-    let free : n ≡ 0 = sym (said-found n b) ∙ ap foundSaid (sym (q .answer)) in
+    let free : n ≡ 0 = sym (said-found n (finding z k mask frame)) ∙ ap foundSaid (sym (q .answer)) in
     let none = light-exact z k (length mask) (badSeen mask) (length frame) (length work) .free free in
     let shown = mask-good z (length mask) (neither (badMask z (length mask)) (badWork z (length work)) (none .1 .1 .1 .0) .0) in
     let some = places-of (described z) mask frame shown (seen-good mask (none .1 .1 .1 .1 .0)) in
-    let same : found.Light a ≡ found.Light b = rw free at (q .answer) in
-    let e : a ≡ b = cc in
+    let same : found.Light a ≡ found.Light (finding z k mask frame) = rw free at (q .answer) in
+    let e : a ≡ finding z k mask frame = cc in
     rw e (light-chosen (described z) k f some (settings-good k (none .1 .0) .share-most))

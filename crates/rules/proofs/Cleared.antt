@@ -1,7 +1,7 @@
 -- What T is in a clearing: the larger of map entry and t0. It is at least both and one of them (`Larger`), there is such a number (`larger-some`) and
 -- one alone (`larger-one`), and each cleared pixel is the recovery at it: of the rule (`cleared-at`), of the buffers that Clear leaves (`clear-at`),
 -- and of a call that keeps its promise (`clears-at`). Assumes nothing.
-use mathlib.Core.Path.{_≡_, sym, ap, _∙_}
+use mathlib.Core.Path.{_≡_, ap, _∙_}
 use mathlib.Core.Logic.{_⊎_, inl, inr, ⊎-elim}
 use mathlib.Core.List.{List}
 use Prim.Native.Nat.{ℕ, _≤_, _<_, max}
@@ -10,15 +10,14 @@ use native.Mathlib.Decide.{decLe}
 use Rattle.rules.specs.Shape.{Shape}
 use Rattle.rules.specs.declared.Settings.{Settings}
 use Rattle.rules.specs.declared.Rgb.{Rgb}
-use Rattle.rules.specs.declared.Answer.{Answer}
-use Rattle.rules.specs.declared.Answer.the-variants.{Done}
+use Rattle.rules.specs.declared.Outcome.{Outcome}
 use Rattle.rules.specs.Window.{Plane, Shown}
 use Rattle.rules.specs.Transmission.{mapEntry}
 use Rattle.rules.specs.Picture.{recover3, cleared}
 use Rattle.rules.specs.Setup.{Setup, shape}
 use Rattle.rules.specs.Buffers.{pixels, values, shownBy, clear}
-use Rattle.rules.specs.Promise.{Lent, noClear, afterClear, Clears}
-use Rattle.rules.proofs.Answers.{done-free}
+use Rattle.rules.specs.Promise.{Lent, outcomeSaid, noClear, afterClear, Clears}
+use Rattle.rules.proofs.Answers.{outcome-free}
 use Rattle.rules.proofs.Buffers.{values-entries, pixels-bytes, masked-value}
 
 -- t is the larger of m and n
@@ -58,14 +57,14 @@ clear-at p frame y x t hy hx l =
 
 -- and that a call leaves which keeps its promise and is not refused
 pub clears-at :
-    (p : Setup) (l m : Lent) (r : Answer) (y x t : ℕ)
+    (p : Setup) (l m : Lent) (r : Outcome) (y x t : ℕ)
     → Clears p l r m
-    → r ≡ Done
+    → outcomeSaid r ≡ 0
     → y < p .size .h
     → x < p .size .w
     → Larger (values (shape p) (m .map) y x) (p .settings .t0) t
     → pixels (shape p) (m .picture) y x ≡ recover3 (p .light) (pixels (shape p) (l .frame) y x) t
 clears-at p l m r y x t q e hy hx h =
-    let free : noClear p l ≡ 0 = done-free (noClear p l) (sym (q .answer) ∙ e) in
+    let free : noClear p l ≡ 0 = outcome-free _ _ _ (q .answer) e in
     let left : m ≡ afterClear p l = rw free at (q .after) in
     rw left (clear-at p (l .frame) y x t hy hx (rw left at h))

@@ -1,7 +1,7 @@
 -- What stands at a hidden pixel. Its map entry is 10,000 and its colour is the pixel itself: of the rules (`cleared-hidden`), of Clear (`clear-hidden`) and
 -- after any run of replacements (`ran-hidden`). New pixels enter the frame at hidden places too (`replaces-hidden`). And no divisor is 0, since a hidden
 -- pixel has none and the windows of a seen one have a pixel (`divisors`). Assumes nothing.
-use mathlib.Core.Path.{_≡_, sym, _∙_}
+use mathlib.Core.Path.{_≡_, _∙_}
 use mathlib.Core.Bool.{true, false}
 use mathlib.Core.List.{List}
 use Prim.Native.Nat.{ℕ, _+_, _*_, max, _≤_, _<_}
@@ -11,14 +11,13 @@ use Rattle.rules.specs.Shape.{Shape}
 use Rattle.rules.specs.declared.Settings.{Settings}
 use Rattle.rules.specs.declared.Rgb.{Rgb}
 use Rattle.rules.specs.declared.Rect.{Rect}
-use Rattle.rules.specs.declared.Answer.{Answer}
-use Rattle.rules.specs.declared.Answer.the-variants.{Done}
+use Rattle.rules.specs.declared.Outcome.{Outcome}
 use Rattle.rules.specs.Window.{Plane, Shown, window}
 use Rattle.rules.specs.Transmission.{sample, fit, Sg, Sgg, Q}
 use Rattle.rules.specs.Picture.{recover3, cleared}
 use Rattle.rules.specs.Setup.{Setup, shape}
 use Rattle.rules.specs.Buffers.{pixels, seenIn, values, State, shownBy, clear}
-use Rattle.rules.specs.Promise.{Lent, state, noReplace, Replaces}
+use Rattle.rules.specs.Promise.{Lent, state, outcomeSaid, noReplace, Replaces}
 use Rattle.rules.specs.Run.{Ran}
 use Rattle.rules.proofs.Buffers.{values-entries, pixels-bytes, masked-seen, masked-value}
 use Rattle.rules.proofs.Recover.{recover-whole}
@@ -27,7 +26,7 @@ use Rattle.rules.proofs.Spread.{Q-pos}
 use Rattle.rules.proofs.Near.{Near}
 use Rattle.rules.proofs.Good.{settings-good, rect-good}
 use Rattle.rules.proofs.Exactly.{replace-exact}
-use Rattle.rules.proofs.Answers.{done-free}
+use Rattle.rules.proofs.Answers.{outcome-free}
 use Rattle.rules.proofs.Run.{ran-fresh}
 use Rattle.rules.proofs.Pasted.{sides, replaces-anew}
 use Rattle.rules.proofs.WholeNumbers.{Bytes, ran-settings}
@@ -89,9 +88,9 @@ pub record Entered (z : Shape) (m : State) (y x : ℕ) (i : Rgb) : Type 0 where
   pub copied : Copied z m y x i
 
 pub replaces-hidden :
-    (p : Setup) (c : Rect) (new : List ℕ) (l m : Lent) (r : Answer)
+    (p : Setup) (c : Rect) (new : List ℕ) (l m : Lent) (r : Outcome)
     → Replaces p c new l r m
-    → r ≡ Done
+    → outcomeSaid r ≡ 0
     → Bytes new
     → (v u : ℕ)
     → v < c .h
@@ -99,7 +98,7 @@ pub replaces-hidden :
     → seenIn (shape p) (p .mask) (c .y + v) (c .x + u) ≡ false
     → Entered (shape p) (state m) (c .y + v) (c .x + u) (pixels (sides c) new v u)
 replaces-hidden p c new l m r q d b v u hv hu s =
-    let none : noReplace p c new l ≡ 0 = done-free (noReplace p c new l) (sym (q .answer) ∙ d) in
+    let none : noReplace p c new l ≡ 0 = outcome-free _ _ _ (q .answer) d in
     let free = replace-exact p c new l .free none in
     let k = settings-good (p .settings) (free .1 .0) in
     let g = rect-good (p .size) c (free .1 .1 .1 .1 .1 .0) in

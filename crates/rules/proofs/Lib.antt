@@ -4,6 +4,8 @@ pub mod Fold
 pub mod Front
 pub mod Buffers
 pub mod Near
+pub mod Count
+pub mod Grown
 pub mod Pixels
 pub mod Box
 pub mod Windowed
@@ -24,6 +26,7 @@ pub mod Good
 pub mod Exactly
 pub mod Lowest
 pub mod Answers
+pub mod Budget
 pub mod Wipe
 pub mod Unique
 pub mod Doubles

@@ -11,18 +11,17 @@ use native.Mathlib.Omega.{arith}
 use Rattle.rules.specs.Shape.{Shape}
 use Rattle.rules.specs.declared.Rgb.{Rgb}
 use Rattle.rules.specs.declared.Rect.{Rect}
-use Rattle.rules.specs.declared.Answer.{Answer}
-use Rattle.rules.specs.declared.Answer.the-variants.{Done}
+use Rattle.rules.specs.declared.Outcome.{Outcome}
 use Rattle.rules.specs.Window.{Plane}
 use Rattle.rules.specs.Setup.{Setup, shape}
 use Rattle.rules.specs.Good.{GoodRect}
 use Rattle.rules.specs.Buffers.{pixels, seenIn, masked, values, State, clear, near, patch, placed, pasted, reach, replace}
-use Rattle.rules.specs.Promise.{Lent, state, noReplace, afterReplace, Replaces}
+use Rattle.rules.specs.Promise.{Lent, state, outcomeSaid, noReplace, afterReplace, Replaces}
 use Rattle.rules.proofs.Near.{Near, Far, near-yes, far-no, near-or-far}
 use Rattle.rules.proofs.Buffers.{values-entries, pixels-bytes}
 use Rattle.rules.proofs.Good.{rect-good}
 use Rattle.rules.proofs.Exactly.{replace-exact}
-use Rattle.rules.proofs.Answers.{done-free}
+use Rattle.rules.proofs.Answers.{outcome-free}
 use Rattle.rules.proofs.Run.{patch-no}
 
 -- (y, x) is a pixel of the rectangle
@@ -114,8 +113,8 @@ module _ (p : Setup) (c : Rect) (new : List ℕ) where
         picture = λ y x hy hx n. pixels-bytes z _ y x hy hx ∙ patch-yes (near (reach k) c) _ _ y x (close y x n) ∙ sym (pixels-bytes z _ y x hy hx);
       }
 
-  pub replaces-anew : (l m : Lent) (r : Answer) → Replaces p c new l r m → r ≡ Done → Anew p c new (state m)
+  pub replaces-anew : (l m : Lent) (r : Outcome) → Replaces p c new l r m → outcomeSaid r ≡ 0 → Anew p c new (state m)
   replaces-anew l m r q e =
-      let free : noReplace p c new l ≡ 0 = done-free (noReplace p c new l) (sym (q .answer) ∙ e) in
+      let free : noReplace p c new l ≡ 0 = outcome-free _ _ _ (q .answer) e in
       let left : m ≡ afterReplace p c new l = rw free at (q .after) in
       rw left (replace-anew (state l) (rect-good (p .size) c (replace-exact p c new l .free free .1 .1 .1 .1 .1 .0)))

@@ -10,7 +10,7 @@ use Rattle.rules.specs.Shape.{Shape}
 use Rattle.rules.specs.declared.Settings.{Settings}
 use Rattle.rules.specs.declared.Rgb.{Rgb}
 use Rattle.rules.specs.declared.Rect.{Rect}
-use Rattle.rules.specs.declared.Answer.{Answer}
+use Rattle.rules.specs.declared.Outcome.{Outcome}
 use Rattle.rules.specs.Window.{Plane, Shown}
 use Rattle.rules.specs.Setup.{Setup, shape}
 use Rattle.rules.specs.Buffers.{pixels, masked, values, State, shownBy, mapOf, pictureOf, clear, near, patch, placed, pasted, reach, replace}
@@ -19,7 +19,7 @@ use Rattle.rules.specs.Run.{Call, accepted, step, run, Fresh, Ran, clear
 use Rattle.rules.proofs.Local.{Agree, Local, entry-local, cleared-local}
 use Rattle.rules.proofs.Near.{Far, far-no, far-sees}
 use Rattle.rules.proofs.Buffers.{values-entries, pixels-bytes, entries-cong, bytes-cong, masked-agree}
-use Rattle.rules.proofs.Answers.{done-free}
+use Rattle.rules.proofs.Answers.{outcome-free}
 
 pub patch-no : {A : Type 0} (t : ℕ → ℕ → Bool) (new old : Plane A) (y x : ℕ) → t y x ≡ false → patch t new old y x ≡ old y x
 unfolding patch
@@ -126,7 +126,7 @@ module _ (p : Setup) where
   pub ran-fresh : (m : Lent) → Ran p m → Fresh p (state m)
   unfolding clear
   ran-fresh _ (after-clear l m r q e) =
-      let none : noClear p l ≡ 0 = done-free (noClear p l) (sym (q .answer) ∙ e) in
+      let none : noClear p l ≡ 0 = outcome-free _ _ _ (q .answer) e in
       let left : m ≡ lent (clear p (l .frame)) (wiped (shape p) (l .work)) = rw none at (q .after) in
       rw left refl
   ran-fresh _ (after-replace l m work c new r ran q) =
@@ -134,7 +134,7 @@ module _ (p : Setup) where
       either-way (λ (n : Lent). Fresh p (state n)) (noReplace p c new (lent (state l) work)) _ (lent (state l) work) m (q .after)
       (fresh-replace p (state l) c new old) old
 
-  pub replaces-alone : (c : Rect) (new : List ℕ) (l m : Lent) (r : Answer) → Replaces p c new l r m → Alone (shape p) (p .settings) c (state l) (state m)
+  pub replaces-alone : (c : Rect) (new : List ℕ) (l m : Lent) (r : Outcome) → Replaces p c new l r m → Alone (shape p) (p .settings) c (state l) (state m)
   replaces-alone c new l m r q =
       either-way (λ (n : Lent). Alone (shape p) (p .settings) c (state l) (state n)) (noReplace p c new l) _ l m (q .after)
       (replace-alone p c new (state l)) (record { frame = λ y x hy hx e. refl; map = λ y x hy hx e. refl; picture = λ y x hy hx e. refl })

@@ -11,13 +11,14 @@ use Rattle.rules.specs.Shape.{Shape, described}
 use Rattle.rules.specs.declared.Size.{Size}
 use Rattle.rules.specs.declared.Settings.{Settings}
 use Rattle.rules.specs.declared.Rgb.{Rgb}
-use Rattle.rules.specs.declared.Answer.{Answer}
+use Rattle.rules.specs.declared.Outcome.{Outcome}
 use Rattle.rules.specs.declared.Found.{Found}
 use Rattle.rules.specs.Light.{places, light}
 use Rattle.rules.specs.Setup.{Setup, shape}
 use Rattle.rules.specs.Buffers.{pixels, seenIn, masked, State, clear}
 use Rattle.rules.specs.Refusals.{badMask, badWork, badSeen, refuseLight}
-use Rattle.rules.specs.Promise.{Lent, lentOf, state, lent, foundOr, answered, unless, wiped, noLight, noClear, Lights, Clears}
+use Rattle.rules.specs.Count.{clearComparisons}
+use Rattle.rules.specs.Promise.{Lent, lentOf, state, lent, outcomeOr, foundOr, findingOf, finding, unless, wiped, noLight, noClear, Lights, Clears}
 use Rattle.rules.specs.Run.{Ran}
 use Rattle.rules.proofs.Buffers.{pixels-bytes, entries-cong, masked-seen}
 use Rattle.rules.proofs.Good.{neither, settings-good, mask-good, seen-good}
@@ -65,9 +66,9 @@ unseen-clear p frame frame′ h =
 -- ---- Light: the same call with the one frame and with the other
 
 -- two answers of Light that are refused alike, and carry the same light where they are not
-pub found-same : (n : ℕ) (a b : Rgb) → (n ≡ 0 → a ≡ b) → foundOr n a ≡ foundOr n b
-found-same zero a b h = rw (h refl)
-found-same (suc n) a b h = refl
+pub found-same : (n : ℕ) (a b : Rgb) (count : ℕ) → (n ≡ 0 → a ≡ b) → foundOr n (findingOf a count) ≡ foundOr n (findingOf b count)
+found-same zero a b count h = rw (h refl)
+found-same (suc n) a b count h = refl
 
 module _ (z : Size) (k : Settings) (mask frame frame′ : List ℕ) (work : List ℤ) (long : length frame ≡ length frame′) (h : SeenAlike (described z) mask frame frame′) where
   pub unseen-lights : (r r′ : Found) (o o′ : List ℤ) → Lights z k mask frame work r o → Lights z k mask frame′ work r′ o′ → (r ≡ r′) × (o ≡ o′)
@@ -80,7 +81,7 @@ module _ (z : Size) (k : Settings) (mask frame frame′ : List ℕ) (work : List
       let shown = mask-good z (length mask) (neither (badMask z (length mask)) (badWork z (length work)) (free .1 .1 .1 .0) .0) in
       let some = places-of (described z) mask frame shown (seen-good mask (free .1 .1 .1 .1 .0)) in
       unseen-light (described z) mask frame frame′ h k some (settings-good k (free .1 .0) .share-most) in (
-        q .answer ∙ found-same (noLight z k mask frame work) _ _ light-is ∙ ap (λ (i : ℕ). foundOr i (light (described z) k (masked (described z) mask frame′))) n ∙ sym (q′ .answer),
+        q .answer ∙ found-same (noLight z k mask frame work) _ _ _ light-is ∙ ap (λ (i : ℕ). foundOr i (finding z k mask frame′)) n ∙ sym (q′ .answer),
         q .after ∙ ap (λ (i : ℕ). unless i (wiped (described z) work) work) n ∙ sym (q′ .after),
       )
 
@@ -99,11 +100,11 @@ module _ (p : Setup) (frame frame′ map picture : List ℕ) (work : List ℤ) (
   abbrev other : Lent
   other = lentOf frame′ map picture work
 
-  pub unseen-clears : (r r′ : Answer) (m m′ : Lent) → Clears p one r m → Clears p other r′ m′ → (r ≡ r′) × SameShown p (state m) (state m′)
+  pub unseen-clears : (r r′ : Outcome) (m m′ : Lent) → Clears p one r m → Clears p other r′ m′ → (r ≡ r′) × SameShown p (state m) (state m′)
   unseen-clears r r′ m m′ q q′ =
       let n : noClear p one ≡ noClear p other = rw long in
       let w = wiped (shape p) work in (
-        q .answer ∙ ap answered n ∙ sym (q′ .answer),
+        q .answer ∙ ap (λ (i : ℕ). outcomeOr i (clearComparisons p)) n ∙ sym (q′ .answer),
         rw (q .after, q′ .after, n)
             (alike-unless p (noClear p other) (clear p frame) (clear p frame′) w w one other (unseen-clear p frame frame′ h) (record { map = refl; picture = λ y x hy hx s. refl })),
       )

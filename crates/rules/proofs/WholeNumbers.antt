@@ -13,6 +13,7 @@ use Rattle.rules.specs.Shape.{Shape, described}
 use Rattle.rules.specs.declared.Size.{Size}
 use Rattle.rules.specs.declared.Rgb.{Rgb}
 use Rattle.rules.specs.declared.Answer.{Answer}
+use Rattle.rules.specs.declared.Outcome.{Outcome}
 use Rattle.rules.specs.declared.Answer.the-variants.{Done}
 use Rattle.rules.specs.Light.{guide}
 use Rattle.rules.specs.Transmission.{coarse, mapEntry}
@@ -21,14 +22,14 @@ use Rattle.rules.specs.Setup.{Setup, shape}
 use Rattle.rules.specs.Buffers.{pixels, seenIn, masked, channel, values, hazed, State, shownBy, clear}
 use Rattle.rules.specs.Good.{GoodSettings, GoodLight}
 use Rattle.rules.specs.Refusals.{refuseHaze}
-use Rattle.rules.specs.Promise.{Lent, state, lent, unless, wiped, noClear, Clears, Hazes}
+use Rattle.rules.specs.Promise.{Lent, state, lent, outcomeSaid, unless, wiped, noClear, Clears, Hazes}
 use Rattle.rules.specs.Run.{Fresh, Ran, cleared as after-clear, replaced as after-replace}
 use Rattle.rules.specs.Fraction.{whole, _/ᶠ_, Off, Over, Beside}
 use Rattle.rules.specs.Exact.{coarseᶠ, mapᶠ, pictureᶠ, hazedᶠ, entryUnder, entryOver, coarseOver, half}
 use Rattle.rules.proofs.Buffers.{masked-seen, masked-value, values-entries, pixels-bytes}
 use Rattle.rules.proofs.Good.{settings-good, light-good, entries-good}
 use Rattle.rules.proofs.Exactly.{clear-exact, haze-exact}
-use Rattle.rules.proofs.Answers.{done-free}
+use Rattle.rules.proofs.Answers.{done-free, outcome-free}
 use Rattle.rules.proofs.Run.{ran-fresh}
 use Rattle.rules.proofs.WholeEntry.{entry-off, entry-quarters}
 use Rattle.rules.proofs.WholeCoarse.{coarse-off}
@@ -94,14 +95,14 @@ module _ (p : Setup) (frame : List ℕ) (s : State) (h : Ready p frame s) (y x :
 
 -- ---- Clear
 
-clear-ready : (p : Setup) (l : Lent) (r : Answer) (m : Lent) → Clears p l r m → r ≡ Done → Ready p (l .frame) (state m)
+clear-ready : (p : Setup) (l : Lent) (r : Outcome) (m : Lent) → Clears p l r m → outcomeSaid r ≡ 0 → Ready p (l .frame) (state m)
 clear-ready p l r m q d =
-    let none : noClear p l ≡ 0 = done-free (noClear p l) (sym (q .answer) ∙ d) in
+    let none : noClear p l ≡ 0 = outcome-free _ _ _ (q .answer) d in
     let free = clear-exact p l .free none in
     let left : m ≡ lent (clear p (l .frame)) (wiped (shape p) (l .work)) = rw none at (q .after) in
     record { fresh = ap state left; settings = settings-good (p .settings) (free .1 .0); light = light-good (p .light) (free .1 .1 .1 .1 .0) }
 
-module _ (p : Setup) (l : Lent) (r : Answer) (m : Lent) (q : Clears p l r m) (d : r ≡ Done) (y x : ℕ) (hy : y < shape p .h) (hx : x < shape p .w) where
+module _ (p : Setup) (l : Lent) (r : Outcome) (m : Lent) (q : Clears p l r m) (d : outcomeSaid r ≡ 0) (y x : ℕ) (hy : y < shape p .h) (hx : x < shape p .w) where
   pub clear-entry : seenIn (shape p) (p .mask) y x ≡ true → Bytes (l .frame) → Off entryUnder entryOver (values (shape p) (m .map) y x) (mapᶠ p (l .frame) y x)
   clear-entry = entry p (l .frame) (state m) (clear-ready p l r m q d) y x hy hx
 

@@ -12,15 +12,14 @@ use Rattle.rules.specs.Shape.{Shape, described, room}
 use Rattle.rules.specs.declared.Size.{Size}
 use Rattle.rules.specs.declared.Settings.{Settings}
 use Rattle.rules.specs.declared.Rect.{Rect}
-use Rattle.rules.specs.declared.Answer.{Answer}
-use Rattle.rules.specs.declared.Answer.the-variants.{Done}
+use Rattle.rules.specs.declared.Outcome.{Outcome}
 use Rattle.rules.specs.declared.Found.{Found}
 use Rattle.rules.specs.Setup.{Setup, shape}
 use Rattle.rules.specs.Refusals.{badMask, badFrame, badMap, badWork, badSeen}
-use Rattle.rules.specs.Promise.{wiped, Lent, foundSaid, noLight, noClear, noReplace, afterClear, afterReplace, Lights, Clears, Replaces}
+use Rattle.rules.specs.Promise.{wiped, Lent, outcomeSaid, foundSaid, noLight, noClear, noReplace, afterClear, afterReplace, Lights, Clears, Replaces}
 use Rattle.rules.proofs.Good.{neither, work-good}
 use Rattle.rules.proofs.Exactly.{light-exact, clear-exact, replace-exact}
-use Rattle.rules.proofs.Answers.{said-found, done-free}
+use Rattle.rules.proofs.Answers.{said-found, outcome-free}
 
 -- work is the area before, work′ afterwards; d stands for what is read past the end
 pub record Wiped (w h : ℕ) (work work′ : List ℤ) : Type 0 where
@@ -84,14 +83,14 @@ module _ (p : Setup) where
   abbrev others : Lent → Bool
   others l = badMask (p .size) (length (p .mask)) || badFrame (p .size) (length (l .picture)) || badMap (p .size) (length (l .map))
 
-  pub clears-wiped : (l m : Lent) (r : Answer) → Clears p l r m → r ≡ Done → Wiped (p .size .w) (p .size .h) (l .work) (m .work)
+  pub clears-wiped : (l m : Lent) (r : Outcome) → Clears p l r m → outcomeSaid r ≡ 0 → Wiped (p .size .w) (p .size .h) (l .work) (m .work)
   clears-wiped l m r q e =
-      let free : noClear p l ≡ 0 = done-free (noClear p l) (sym (q .answer) ∙ e) in
+      let free : noClear p l ≡ 0 = outcome-free _ _ _ (q .answer) e in
       let left : m ≡ afterClear p l = rw free at (q .after) in
       rw left (wiped-is (shape p) (l .work) (roomy (p .size) (others l) (length (l .work)) (clear-exact p l .free free .1 .1 .1 .0)))
 
-  pub replaces-wiped : (c : Rect) (new : List ℕ) (l m : Lent) (r : Answer) → Replaces p c new l r m → r ≡ Done → Wiped (p .size .w) (p .size .h) (l .work) (m .work)
+  pub replaces-wiped : (c : Rect) (new : List ℕ) (l m : Lent) (r : Outcome) → Replaces p c new l r m → outcomeSaid r ≡ 0 → Wiped (p .size .w) (p .size .h) (l .work) (m .work)
   replaces-wiped c new l m r q e =
-      let free : noReplace p c new l ≡ 0 = done-free (noReplace p c new l) (sym (q .answer) ∙ e) in
+      let free : noReplace p c new l ≡ 0 = outcome-free _ _ _ (q .answer) e in
       let left : m ≡ afterReplace p c new l = rw free at (q .after) in
       rw left (wiped-is (shape p) (l .work) (roomy (p .size) (others l) (length (l .work)) (replace-exact p c new l .free free .1 .1 .1 .0)))

@@ -6,6 +6,7 @@ pub mod Light
 pub mod Transmission
 pub mod Picture
 pub mod Setup
+pub mod Count
 pub mod Buffers
 pub mod Box
 pub mod Refusals
@@ -14,5 +15,6 @@ pub mod Promise
 pub mod Run
 pub mod Cases
 pub mod CasesMask
+pub mod CasesCount
 pub mod Fraction
 pub mod Exact

@@ -1,7 +1,9 @@
 -- What each operation promises, for every input: the answer, and what stands in each lent buffer afterwards. Assumes nothing.
 use mathlib.Core.Path.{_≡_}
 use Prim.Native.Nat.{ℕ, zero, suc}
+use mathlib.Core.Bool.{cond, _||_}
 use mathlib.Core.List.{List, _++_}
+use lib.Dec.{ltb}
 use lib.ListN.{length, drop, replicate}
 use lib.IntN.{ℤ, pos}
 use Rattle.rules.specs.Shape.{Shape, described, room}
@@ -11,6 +13,9 @@ use Rattle.rules.specs.declared.Rgb.{Rgb}
 use Rattle.rules.specs.declared.Rect.{Rect}
 use Rattle.rules.specs.declared.Answer.{Answer}
 use Rattle.rules.specs.declared.Answer.the-variants as answer
+use Rattle.rules.specs.declared.Outcome.{Outcome}
+use Rattle.rules.specs.declared.Outcome.the-variants as outcome
+use Rattle.rules.specs.declared.Finding.{Finding}
 use Rattle.rules.specs.declared.Found.{Found}
 use Rattle.rules.specs.declared.Found.the-variants as found
 use Rattle.rules.specs.declared.Figure.{Figure}
@@ -19,8 +24,9 @@ use Rattle.rules.specs.declared.Band.the-variants as band
 use Rattle.rules.specs.Light.{light}
 use Rattle.rules.specs.Picture.{figure}
 use Rattle.rules.specs.Setup.{Setup, shape}
+use Rattle.rules.specs.Count.{frameComparisons, clearComparisons, replaceComparisons}
 use Rattle.rules.specs.Buffers.{masked, hazed, State, clear, replace}
-use Rattle.rules.specs.Refusals.{badSeen, refuseLight, refuseClear, refuseReplace, refuseHaze, refuseBand}
+use Rattle.rules.specs.Refusals.{badSize, badSeen, refuseLight, refuseClear, refuseReplace, refuseHaze, refuseBand}
 
 -- ---- the answers: the case for each number of the paper, 0 for an accepted call, with the values that it carries
 
@@ -32,7 +38,10 @@ or ok bad (suc n) v = bad (suc n)
 abbrev pub answered : ℕ → Answer
 answered n = or (λ (v : Unit {0}). answer.Done) answer.Refused n tt
 
-abbrev pub foundOr : ℕ → Rgb → Found
+abbrev pub outcomeOr : ℕ → ℕ → Outcome
+outcomeOr = or outcome.Done outcome.Refused
+
+abbrev pub foundOr : ℕ → Finding → Found
 foundOr = or found.Light found.Refused
 
 abbrev pub figureOr : ℕ → Figure → Band
@@ -42,6 +51,10 @@ figureOr = or band.Figure band.Refused
 abbrev pub said : Answer → ℕ
 said answer.Done = 0
 said (answer.Refused n) = n
+
+abbrev pub outcomeSaid : Outcome → ℕ
+outcomeSaid (outcome.Done c) = 0
+outcomeSaid (outcome.Refused n) = n
 
 abbrev pub foundSaid : Found → ℕ
 foundSaid (found.Light a) = 0
@@ -100,6 +113,13 @@ noReplace p c new l =
 abbrev pub noLight : Size → Settings → List ℕ → List ℕ → List ℤ → ℕ
 noLight z k mask frame work = refuseLight z k (length mask) (badSeen mask) (length frame) (length work)
 
+-- what an accepted call of Light finds: the light, and the comparisons that the dark channel took
+abbrev pub findingOf : Rgb → ℕ → Finding
+findingOf a count = record { light = a; comparisons = count }
+
+abbrev pub finding : Size → Settings → List ℕ → List ℕ → Finding
+finding z k mask frame = findingOf (light (described z) k (masked (described z) mask frame)) (frameComparisons (described z) (k .s))
+
 -- what an accepted call leaves in them
 abbrev pub afterClear : Setup → Lent → Lent
 afterClear p l = lent (clear p (l .frame)) (wiped (shape p) (l .work))
@@ -111,17 +131,17 @@ afterReplace p c new l = lent (replace p c new (state l)) (wiped (shape p) (l .w
 
 -- Light: work is the work area before, work′ afterwards
 pub record Lights (z : Size) (k : Settings) (mask frame : List ℕ) (work : List ℤ) (r : Found) (work′ : List ℤ) : Type 0 where
-  pub answer : r ≡ foundOr (noLight z k mask frame work) (light (described z) k (masked (described z) mask frame))
+  pub answer : r ≡ foundOr (noLight z k mask frame work) (finding z k mask frame)
   pub after : work′ ≡ unless (noLight z k mask frame work) (wiped (described z) work) work
 
 -- Clear: l is what stood in the buffers, m what stands there afterwards
-pub record Clears (p : Setup) (l : Lent) (r : Answer) (m : Lent) : Type 0 where
-  pub answer : r ≡ answered (noClear p l)
+pub record Clears (p : Setup) (l : Lent) (r : Outcome) (m : Lent) : Type 0 where
+  pub answer : r ≡ outcomeOr (noClear p l) (clearComparisons p)
   pub after : m ≡ unless (noClear p l) (afterClear p l) l
 
 -- Replace: c is the rectangle, new its pixels
-pub record Replaces (p : Setup) (c : Rect) (new : List ℕ) (l : Lent) (r : Answer) (m : Lent) : Type 0 where
-  pub answer : r ≡ answered (noReplace p c new l)
+pub record Replaces (p : Setup) (c : Rect) (new : List ℕ) (l : Lent) (r : Outcome) (m : Lent) : Type 0 where
+  pub answer : r ≡ outcomeOr (noReplace p c new l) (replaceComparisons p c)
   pub after : m ≡ unless (noReplace p c new l) (afterReplace p c new l) l
 
 -- Haze: out is the lent frame before, out′ afterwards
@@ -132,3 +152,7 @@ pub record Hazes (z : Size) (a : Rgb) (clean map out : List ℕ) (r : Answer) (o
 -- Band figure: nothing is written
 pub record Bands (z : Size) (map : List ℕ) (start end : ℕ) (r : Band) : Type 0 where
   pub answer : r ≡ figureOr (refuseBand z map start end) (figure (described z) map start end)
+
+-- Budget: the comparisons for a frame of this size at radius s, before any frame is there; 0 for a size or radius that is refused
+pub record Budgets (z : Size) (s : ℕ) (r : ℕ) : Type 0 where
+  pub answer : r ≡ cond (badSize z || ltb 30 s) 0 (frameComparisons (described z) s)

@@ -7,12 +7,11 @@ use lib.ListN.{length}
 use lib.Dec.{eqb}
 use lib.IntN.{ℤ}
 use Rattle.rules.specs.declared.Rect.{Rect}
-use Rattle.rules.specs.declared.Answer.{Answer}
-use Rattle.rules.specs.declared.Answer.the-variants.{Done}
+use Rattle.rules.specs.declared.Outcome.{Outcome}
 use Rattle.rules.specs.Setup.{Setup}
 use Rattle.rules.specs.Buffers.{State, clear, replace}
 use Rattle.rules.specs.Refusals.{refuseReplace}
-use Rattle.rules.specs.Promise.{Lent, state, lent, Clears, Replaces}
+use Rattle.rules.specs.Promise.{Lent, state, lent, outcomeSaid, Clears, Replaces}
 
 -- a call: the rectangle, the new pixels, and the length of the work area that it is lent
 pub record Call : Type 0 where
@@ -51,5 +50,5 @@ Fresh p s = s ≡ clear p (s .frame)
 -- The same said of the calls themselves: the buffers that an accepted Clear and then any Replace calls, accepted and refused, can leave, when each
 -- keeps its promise. Between two calls the caller may lend another work area.
 pub data Ran (p : Setup) : Lent → Type 0 where
-  cleared : (l m : Lent) (r : Answer) → Clears p l r m → r ≡ Done → Ran p m
-  replaced : (l m : Lent) (work : List ℤ) (c : Rect) (new : List ℕ) (r : Answer) → Ran p l → Replaces p c new (lent (state l) work) r m → Ran p m
+  cleared : (l m : Lent) (r : Outcome) → Clears p l r m → outcomeSaid r ≡ 0 → Ran p m
+  replaced : (l m : Lent) (work : List ℤ) (c : Rect) (new : List ℕ) (r : Outcome) → Ran p l → Replaces p c new (lent (state l) work) r m → Ran p m

@@ -1,4 +1,4 @@
-// The five calls on lent parts of the buffers.
+// The six calls on lent parts of the buffers.
 use crate::line::at_most;
 use crate::line::past;
 use rules::Rect;
@@ -7,10 +7,12 @@ use rules::Settings;
 use rules::Size;
 use telling::say_answer;
 use telling::say_band;
+use telling::say_budget;
 use telling::say_bytes;
 use telling::say_entries;
 use telling::say_found;
 use telling::say_kinds;
+use telling::say_outcome;
 
 fn size(args: &[u64; 24]) -> Size {
     Size {
@@ -62,7 +64,7 @@ fn clear(
     let z = size(args);
     let k = settings(args);
     let a = light_given(args);
-    say_answer(haze::clear(z, k, a, mask, frame, map, picture, work));
+    say_outcome(haze::clear(z, k, a, mask, frame, map, picture, work));
 }
 
 fn replace(
@@ -78,7 +80,7 @@ fn replace(
     let k = settings(args);
     let a = light_given(args);
     let c = rect(args);
-    say_answer(haze::replace(z, k, a, c, new, mask, frame, map, picture, work));
+    say_outcome(haze::replace(z, k, a, c, new, mask, frame, map, picture, work));
 }
 
 fn haze(args: &[u64; 24], frame: &[u8], map: &[u16], picture: &mut [u8]) {
@@ -88,6 +90,10 @@ fn haze(args: &[u64; 24], frame: &[u8], map: &[u16], picture: &mut [u8]) {
 fn band(args: &[u64; 24], map: &[u16]) {
     let c = rect(args);
     say_band(haze::band(size(args), map, c.x, c.y));
+}
+
+fn budget(args: &[u64; 24]) {
+    say_budget(haze::comparisons(size(args), args[3] as usize));
 }
 
 // The call, on the lent parts.
@@ -106,6 +112,7 @@ fn call(
         3 => replace(args, new, mask, frame, map, picture, work),
         4 => haze(args, frame, map, picture),
         5 => band(args, map),
+        8 => budget(args),
         _ => clear(args, mask, frame, map, picture, work),
     }
 }

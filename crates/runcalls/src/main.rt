@@ -1,12 +1,12 @@
-// Runs the five calls on what standard input says, and writes after each call its answer and a digest of every buffer that was lent.
+// Runs the six calls on what standard input says, and writes after each call its answer and a digest of every buffer that was lent.
 // A line of input is one command: decimal numbers, each ended by one byte that is no digit. The first number says what to do:
-//   1 light, 2 clear, 3 replace, 4 haze, 5 band figure, 6 fill a part of a buffer, 7 fill the mask.
+//   1 light, 2 clear, 3 replace, 4 haze, 5 band figure, 6 fill a part of a buffer, 7 fill the mask, 8 budget.
 // The buffers stay from line to line, so that a run of replacements is a run of lines. A call's other numbers are, in this order:
 //   W H, s r omega E t0 share, the light R G B, the rectangle x y w h (for the band figure: from, to, 0, 0),
 //   how many entries of frame, new pixels, map, picture and work area are lent, which entry of map and picture is the first,
 //   and how many bytes of the mask are lent.
-// Haze takes the frame as the clean one and hazes the picture. A fill's other numbers are the buffer's, the first entry and how many, and
-// those of `fill::Pattern`; for the mask how many bytes, and those of `mask::Shown`.
+// Haze takes the frame as the clean one and hazes the picture; the budget takes W H and s alone. A fill's other numbers are the buffer's, the
+// first entry and how many, and those of `fill::Pattern`; for the mask how many bytes, and those of `mask::Shown`.
 ghost use Rattle.io.specs.Counts.{Counts};
 
 mod calls;

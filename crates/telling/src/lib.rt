@@ -4,6 +4,7 @@ use rules::Answer;
 use rules::Band;
 use rules::Figure;
 use rules::Found;
+use rules::Outcome;
 
 fn say(n: u64) {
     io::write_all(1, b" ");
@@ -96,13 +97,24 @@ pub fn say_answer(answer: Answer) {
     }
 }
 
+pub fn say_outcome(outcome: Outcome) {
+    match outcome {
+        Outcome::Done(count) => {
+            io::write_all(1, b"done");
+            say(count);
+        }
+        Outcome::Refused(number) => say_refused(number),
+    }
+}
+
 pub fn say_found(found: Found) {
     match found {
-        Found::Light(a) => {
+        Found::Light(f) => {
             io::write_all(1, b"light");
-            say(a.r as u64);
-            say(a.g as u64);
-            say(a.b as u64);
+            say(f.light.r as u64);
+            say(f.light.g as u64);
+            say(f.light.b as u64);
+            say(f.comparisons);
         }
         Found::Refused(number) => say_refused(number),
     }
@@ -124,4 +136,9 @@ pub fn say_band(band: Band) {
         Band::Figure(figure) => say_figure(figure),
         Band::Refused(number) => say_refused(number),
     }
+}
+
+pub fn say_budget(count: u64) {
+    io::write_all(1, b"takes");
+    say(count);
 }

@@ -14,7 +14,8 @@ use Rattle.rules.specs.Shape.{Shape, described, room}
 use Rattle.rules.specs.declared.Size.{Size}
 use Rattle.rules.specs.declared.Settings.{Settings}
 use Rattle.rules.specs.declared.Rgb.{Rgb}
-use Rattle.rules.specs.declared.Answer.{Answer}
+use Rattle.rules.specs.declared.Finding.{Finding}
+use Rattle.rules.specs.declared.Outcome.{Outcome}
 use Rattle.rules.specs.declared.Found.{Found}
 use Rattle.rules.specs.declared.Found.the-variants.{Light, Refused}
 use Rattle.rules.specs.Window.{Plane, Shown}
@@ -22,7 +23,7 @@ use Rattle.rules.specs.Light.{light}
 use Rattle.rules.specs.Setup.{handed}
 use Rattle.rules.specs.Buffers.{masked, clear}
 use Rattle.rules.specs.Refusals.{badFrame, badMap, badMask, badWork, badLight, badSeen, refuseLight, refuseClear}
-use Rattle.rules.specs.Promise.{foundOr, Lent, lentOf, noLight, noClear, afterClear, Lights, Clears}
+use Rattle.rules.specs.Promise.{foundOr, finding, Lent, lentOf, noLight, noClear, afterClear, Lights, Clears}
 use Rattle.rules.proofs.Answers.{or-done, made}
 use Rattle.fields.specs.Written.{Wrote}
 use Rattle.fields.proofs.Written.{then}
@@ -70,16 +71,16 @@ module _ (z : Size) (k : Settings) (mask : List ℕ) (frame entries picture work
 
 -- ---- what the promises come to for a frame that is ready
 
-found-light : (n : ℕ) (a : Rgb) (r : Found) → r ≡ foundOr n a → n ≡ 0 → r ≡ Light a
+found-light : (n : ℕ) (a : Finding) (r : Found) → r ≡ foundOr n a → n ≡ 0 → r ≡ Light a
 found-light n a r e z = e ∙ sym (or-done Light Refused n a z)
 
-same-light : (a b : Rgb) → Light a ≡ Light b → a ≡ b
+same-light : (a b : Finding) → Light a ≡ Light b → a ≡ b
 same-light a b e = cc
 
-pub the-light : (n : ℕ) (a b : Rgb) (r : Found) → r ≡ foundOr n b → n ≡ 0 → r ≡ Light a → a ≡ b
+pub the-light : (n : ℕ) (a b : Finding) (r : Found) → r ≡ foundOr n b → n ≡ 0 → r ≡ Light a → a ≡ b
 the-light n a b r e z q = same-light a b (sym q ∙ found-light n b r e z)
 
-pub no-refusal : (n m : ℕ) (b : Rgb) (r : Found) → r ≡ foundOr n b → n ≡ 0 → r ≡ Refused m → ⊥
+pub no-refusal : (n m : ℕ) (b : Finding) (r : Found) → r ≡ foundOr n b → n ≡ 0 → r ≡ Refused m → ⊥
 no-refusal n m b r e z q = let w : Light b ≡ Refused m = sym (found-light n b r e z) ∙ q in let y : _≡_ {A = ℕ} 0 1 = cc in omega arith
 
 pub all-shown : (z : Size) (k : Settings) (mask frame : List ℕ) (a : Rgb) (entries picture : List ℕ) (n : ℕ) (out mid out′ : List ℕ) (at end : ℕ)
@@ -103,13 +104,15 @@ module _ (z : Size) (k : Settings) (mask : List ℕ) (l : Lent) (out : ℕ)
   pub never : {A : Type 0} (n : ℕ) → r ≡ Refused n → A
   never n q = absurd (lightless n q)
 
-  pub finished : (a : Rgb) (b : Answer) (m : Lent) (before mid after : List ℕ) (at end : ℕ) → r ≡ Light a → length work′ ≡ length (l .work)
-      → Clears (handed z k a mask) (lentOf (l .frame) (l .map) (l .picture) work′) b m → length (m .map) ≡ length (l .map)
-      → Wrote (lightLine a) before 0 mid at → Wrote (outs (length (m .map)) (m .map) (m .picture)) mid at after end
+  pub finished : (f : Finding) (b : Outcome) (m : Lent) (before mid after : List ℕ) (at end : ℕ) → r ≡ Light f → length work′ ≡ length (l .work)
+      → Clears (handed z k (f .light) mask) (lentOf (l .frame) (l .map) (l .picture) work′) b m → length (m .map) ≡ length (l .map)
+      → Wrote (lightLine (f .light)) before 0 mid at → Wrote (outs (length (m .map)) (m .map) (m .picture)) mid at after end
       → Wrote (shown z k (l .frame)) before 0 after end
-  finished a b m before mid after at end q kept cleared same w v =
-      let ea : a ≡ light (described z) k (masked (described z) mask (l .frame)) =
-      the-light (noLight z k mask (l .frame) (l .work)) a _ r (found .answer) (accept-light z k mask _ _ _ _ out ready) q in
+  finished f b m before mid after at end q kept cleared same w v =
+      let a = f .light in
+      let ef : f ≡ finding z k mask (l .frame) =
+      the-light (noLight z k mask (l .frame) (l .work)) f _ r (found .answer) (accept-light z k mask _ _ _ _ out ready) q in
+      let ea : a ≡ light (described z) k (masked (described z) mask (l .frame)) = ap (λ (x : Finding). x .light) ef in
       let good : badLight a ≡ false = ap badLight ea ∙ light-good (described z) k (masked (described z) mask (l .frame)) in
       let ready′ : Ready z k mask (length (l .frame)) (length (l .map)) (length (l .picture)) (length work′) out =
       subst (λ (n : ℕ). Ready z k mask (length (l .frame)) (length (l .map)) (length (l .picture)) n out) (sym kept) ready in

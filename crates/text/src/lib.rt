@@ -80,9 +80,9 @@ fn show(
     ensures { λ r. ⌜ Wrote (shown z k (now (frame .entry))) (now (out .entry)) 0 (now (out .exit)) r ⌝ }
 {
     match haze::light(z, k, mask, frame, work) {
-        Found::Light(a) => {
-            haze::clear(z, k, a, mask, frame, map, picture, work);
-            let at = put_light(out, a);
+        Found::Light(f) => {
+            haze::clear(z, k, f.light, mask, frame, map, picture, work);
+            let at = put_light(out, f.light);
             put_outs(out, at, &map[..], &picture[..])
         }
         Found::Refused(_) => 0,

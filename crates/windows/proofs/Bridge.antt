@@ -5,7 +5,8 @@ use native.Mathlib.Omega.{arith}
 use Rattle.rules.specs.Window.{Plane, least, square}
 use Rattle.rules.specs.Fold.{Σ}
 use Rattle.rules.proofs.Fold.{least-square}
-use Rattle.windows.specs.Span.{run, span, lo, hi, windowed}
+use Rattle.rules.specs.Count.{lo, hi}
+use Rattle.windows.specs.Span.{run, span, windowed}
 use Rattle.windows.proofs.Spans.{span-cong}
 
 run-front : (f : ℕ → ℕ) (a d : ℕ) → run min f a (suc d) ≡ min (f a) (run min f (suc a) d)

@@ -6,7 +6,8 @@ use Prim.Native.Nat.{ℕ, zero, suc, _+_, _-_, _*_, _/_, _%_, _≤_, _<_, zero-l
 use native.Mathlib.Nat.{div-mul-le-self, lt-div-mul-add, div-eq-of-lt-le, add-mul, one-mul, mod-eq-sub-div-mul}
 use native.Mathlib.Omega.{arith}
 use borrow.Author.Tests.{lt-ltb, le-ltb, eq-eqb, ne-eqb}
-use Rattle.windows.specs.Span.{span, lo, hi, windowed}
+use Rattle.rules.specs.Count.{lo, hi}
+use Rattle.windows.specs.Span.{span, windowed}
 use Rattle.windows.specs.Blocks.{start, stop, choose}
 use Rattle.windows.proofs.Spans.{span-split}
 

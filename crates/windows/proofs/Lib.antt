@@ -1,7 +1,7 @@
 -- What belongs to no one function.
 pub mod Spans
 pub mod Cuts
-pub mod Counts
+pub mod Crossings
 pub mod Lines
 pub mod Windows
 pub mod Bridge

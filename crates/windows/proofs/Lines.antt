@@ -8,13 +8,13 @@ use native.Mathlib.Omega.{arith}
 use native.Mathlib.Numerals.{add-one}
 use lib.ListN.{length, set}
 use lib.Seq.{getD-set-same, getD-set-other}
+use Rattle.rules.specs.Count.{inBlocks, samples}
+use Rattle.rules.proofs.Count.{inner, inner-is, inner-none, inner-step, samples-length}
 use Rattle.windows.specs.Span.{span}
 use Rattle.windows.specs.Blocks.{start, stop}
-use Rattle.windows.specs.Count.{inBlocks, samples}
 use Rattle.windows.specs.Line.{entry, Written, Laid, fore, aft}
 use Rattle.windows.proofs.Spans.{span-one, span-more, span-front}
 use Rattle.windows.proofs.Cuts.{lt-or-ge, start-zero, start-same, start-next}
-use Rattle.windows.proofs.Counts.{inner, inner-is, inner-none, inner-step, samples-length}
 
 pub min-assoc : (x y z : ℕ) → min (min x y) z ≡ min x (min y z)
 min-assoc x y z = omega arith

@@ -2,19 +2,20 @@
 use mathlib.Core.Path.{_≡_, refl, sym, ap, _∙_}
 use mathlib.Core.Bool.{cond}
 use mathlib.Core.List.{List}
-use Prim.Native.Nat.{ℕ, zero, suc, _+_, _-_, _*_, _≤_, _<_, min, zero-le}
+use Prim.Native.Nat.{ℕ, _+_, _-_, _*_, _≤_, _<_, min, zero-le}
 use native.Mathlib.Omega.{arith}
 use native.Mathlib.Numerals.{add-one}
 use borrow.Author.Tests.{lt-ltb, le-ltb}
 use lib.Dec.{ltb}
 use lib.ListN.{length, set}
-use Rattle.windows.specs.Span.{lo, hi, windowed}
+use Rattle.rules.specs.Count.{lo, hi, inBlocks, crossing, tally, comparisons, samples}
+use Rattle.rules.proofs.Count.{tally-suc, tally-ones, crossings-le, samples-length}
+use Rattle.windows.specs.Span.{windowed}
 use Rattle.windows.specs.Blocks.{start, choose}
-use Rattle.windows.specs.Count.{inBlocks, tally, crossing, comparisons, samples}
 use Rattle.windows.specs.Line.{entry, Written, fore, aft, met, Met}
 use Rattle.windows.proofs.Spans.{span-one}
-use Rattle.windows.proofs.Cuts.{start-le, start-zero, start-same, start-next, choose-two, choose-start, choose-is}
-use Rattle.windows.proofs.Counts.{inner, inner-is, inner-none, inner-step, tally-suc, tally-zeros, tally-ones, crossing-is, crossings-le, samples-length}
+use Rattle.windows.proofs.Cuts.{start-zero, start-same, start-next, choose-two, choose-start, choose-is}
+use Rattle.windows.proofs.Crossings.{crossing-is}
 use Rattle.windows.proofs.Lines.{min-assoc, written-none, written-on, written-more, written-as}
 
 module _ (l p q : List ℕ) (n s : ℕ) where
@@ -41,20 +42,17 @@ cut-last n s i full h = let z : hi s n i ≡ n - 1 = omega (arith, full (omega a
 cut-first : (n s i : ℕ) → lo s i ≡ 0 → start (2 * s + 1) (hi s n i) ≡ 0
 cut-first n s i h = start-same (2 * s + 1) (omega arith) 0 (hi s n i) (start-zero (2 * s + 1) (omega arith)) zero-le (omega arith)
 
--- what holds of the start of the last sample's block
-abbrev Last : ℕ → ℕ → (ℕ → Type 0) → Type 0
-Last a c P = (d : ℕ) → (0 < a → d ≡ c) → (a ≡ 0 → d ≡ 0) → P d
-
 pub cut-more : (l p q : List ℕ) (n s : ℕ) (m : List ℕ) (from i a b c count v r : ℕ) → Met l m p q n s from i count → from ≤ i → i < length m
     → (s ≤ i → n ≤ i + s) → a ≡ lo s i → b ≡ hi s n i → c ≡ start (2 * s + 1) (n - 1)
-    → Last a c (λ d. v ≡ choose min a d (entry q a) (entry p b)) → Last a c (λ d. r ≡ cond (ltb a d) 1 0)
+    → ((d : ℕ) → (0 < a → d ≡ c) → (a ≡ 0 → d ≡ 0) → (v ≡ choose min a d (entry q a) (entry p b)) × (r ≡ cond (ltb a d) 1 0))
     → Met l (set m i v) p q n s from (i + 1) (count + r)
-cut-more l p q n s m from i a b c count v r t fi h full ea eb ec pick cross =
+cut-more l p q n s m from i a b c count v r t fi h full ea eb ec pick =
     let last : 0 < a → start (2 * s + 1) (hi s n i) ≡ c = λ o. cut-last n s i full (omega arith) ∙ sym ec in
     let first : a ≡ 0 → start (2 * s + 1) (hi s n i) ≡ 0 = λ o. cut-first n s i (omega arith) in
-    let x : r ≡ crossing s n i = cross (start (2 * s + 1) (hi s n i)) last first ∙ rw (ea, crossing-is s n i) in
+    let picked = pick (start (2 * s + 1) (hi s n i)) last first in
+    let x : r ≡ crossing s n i = picked .1 ∙ rw (ea, crossing-is s n i) in
     record {
-      mins = written-more _ l m from i v (t .mins) fi h (pick (start (2 * s + 1) (hi s n i)) last first ∙ rw (ea, eb));
+      mins = written-more _ l m from i v (t .mins) fi h (picked .0 ∙ rw (ea, eb));
       count = rw (add-one i, tally-suc (crossing s n) i) (omega (arith, t .count));
     }
 
@@ -97,11 +95,11 @@ module _ (l p q : List ℕ) (s m : ℕ) where
       let z : min 0 m + s ≡ s = omega arith in
       record { size = refl; begin = start-zero (2 * s + 1) (omega arith); met-to = rw z (met-none l p q (m + 2 * s) s s) }
 
-  pub whole-more : (u v : List ℕ) (a count some : ℕ) → WholeTo l u p q s m a count → a < m → m + 2 * s ≤ length u → some ≡ min (2 * s) (m - a - 1)
-      → length v ≡ length u
+  pub whole-more : (u v : List ℕ) (a count some r : ℕ) → WholeTo l u p q s m a count → a < m → m + 2 * s ≤ length u → some ≡ min (2 * s) (m - a - 1)
+      → length v ≡ length u → r ≡ count + some
       → Written (λ i. min (entry q (i - s)) (entry p (i + s))) (set u (a + s) (entry p (a + 2 * s))) v (a + 1 + s) (a + 1 + s + some)
-      → WholeTo l v p q s m (a + (2 * s + 1)) (count + some)
-  whole-more u v a count some t am room es sz w =
+      → WholeTo l v p q s m (a + (2 * s + 1)) r
+  whole-more u v a count some r t am room es sz er w =
       let n : ℕ = m + 2 * s in
       let k : ℕ = 2 * s + 1 in
       let begin = t .begin in
@@ -119,7 +117,7 @@ module _ (l p q : List ℕ) (s m : ℕ) where
       record {
         size = sz ∙ t .size;
         begin = start-next (2 * s + 1) (omega arith) a (t .begin);
-        met-to = rw end
+        met-to = rw (end, er)
             (record {
               mins = written-on (met p q (m + 2 * s) s) l _ v s (a + s + 1) (a + s + 1 + some) first then (omega arith) (omega arith);
               count = whole-count (crossing s (m + 2 * s)) s (a + s) count some (d .count) (one .1) (λ i x y. more i x y .1);
@@ -157,18 +155,3 @@ zero-mins f n x h =
     let z : hi 0 n x ≡ x = omega arith in
     let y : lo 0 x ≡ x = omega arith in
     rw (z, y) (sym (span-one min f x))
-
--- blocks of one sample
-zero-inner : (n : ℕ) → inner 1 n ≡ 0
-zero-inner zero = inner-none 1
-zero-inner (suc n) =
-    let z : suc n - 1 ≡ n = omega arith in
-    omega (arith, rw z at (inner-step 1 (suc n) (omega arith) (omega arith)), zero-inner n)
-
--- no window reaches into two
-zero-crossing : (n i : ℕ) → crossing 0 n i ≡ 0
-zero-crossing n i = crossing-is 0 n i ∙ rw (le-ltb (lo 0 i) (start 1 (hi 0 n i)) (omega (arith, start-le 1 (omega arith) (hi 0 n i))))
-
-pub zero-count : (n : ℕ) → 0 ≡ comparisons 0 (samples n)
-unfolding comparisons
-zero-count n = rw (inner-is 1 (samples n), samples-length n, zero-inner n, tally-zeros (crossing 0 n) n (λ i h. zero-crossing n i))

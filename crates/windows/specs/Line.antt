@@ -3,9 +3,9 @@ use mathlib.Core.Path.{_≡_}
 use mathlib.Core.List.{List}
 use Prim.Native.Nat.{ℕ, _+_, _-_, _*_, _≤_, _<_, min}
 use lib.ListN.{getD}
-use Rattle.windows.specs.Span.{span, lo, hi}
+use Rattle.rules.specs.Count.{lo, hi, crossing, tally}
+use Rattle.windows.specs.Span.{span}
 use Rattle.windows.specs.Blocks.{start, stop, choose}
-use Rattle.windows.specs.Count.{tally, crossing}
 
 -- sample i
 abbrev pub entry : List ℕ → ℕ → ℕ

@@ -1,6 +1,7 @@
 -- A span of a line joined by an operation: the view that the loops have of a window. A line is a function ℕ → A. No span is empty, so no law
 -- asks for a unit. Assumes nothing.
-use Prim.Native.Nat.{ℕ, zero, suc, _+_, _-_, min}
+use Prim.Native.Nat.{ℕ, zero, suc, _+_, _-_}
+use Rattle.rules.specs.Count.{lo, hi}
 
 module _ {A : Type 0} (op : A → A → A) where
   -- f a, f (a + 1) .. f (a + d), joined from the left
@@ -11,13 +12,6 @@ module _ {A : Type 0} (op : A → A → A) where
   -- f a .. f b, joined, for a at most b
   unfoldable pub span : (ℕ → A) → ℕ → ℕ → A
   span f a b = run f a (b - a)
-
--- the first and the last sample of the window of radius s about sample i, cut off at the ends of a line of n
-abbrev pub lo : ℕ → ℕ → ℕ
-lo s i = i - s
-
-abbrev pub hi : ℕ → ℕ → ℕ → ℕ
-hi s n i = min (i + s) (n - 1)
 
 -- the window about sample i of the line f, joined
 abbrev pub windowed : {A : Type 0} → (A → A → A) → (ℕ → A) → ℕ → ℕ → ℕ → A

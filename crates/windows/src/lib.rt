@@ -4,15 +4,31 @@ ghost use mathlib.Core.Bool.{cond};
 ghost use Prim.Native.Nat.{ℕ, _+_, _-_, _*_, _≤_, _<_, min};
 ghost use lib.Dec.{ltb};
 ghost use lib.ListN.{length, getD};
-ghost use Rattle.windows.specs.Span.{span, hi, windowed};
+ghost use Rattle.rules.specs.Count.{hi, inBlocks, comparisons, samples};
+ghost use Rattle.windows.specs.Span.{span, windowed};
 ghost use Rattle.windows.specs.Blocks.{start, choose};
-ghost use Rattle.windows.specs.Count.{inBlocks, comparisons, samples};
 ghost use Rattle.windows.specs.Line.{entry, Written, fore, aft, Met};
 use numbers::cut;
 use numbers::less;
 use numbers::lesser_u16;
 use numbers::lesser_u32;
 use numbers::lesser_usize;
+
+// A least, and how many comparisons it took.
+struct Least {
+    value: u16,
+    comparisons: usize,
+}
+
+// A least that took none.
+fn untouched(x: u16) -> Least
+    ensures { λ r. ⌜ (r .value ≡ x) × (r .comparisons ≡ 0) ⌝ }
+{
+    Least {
+        value: x,
+        comparisons: 0,
+    }
+}
 
 // A sample for a running least, which is kept in 32 bits: it is quicker.
 fn wide(x: u16) -> u32
@@ -28,13 +44,15 @@ fn ahead(line: &[u16], first: usize, last: usize, p: &mut [u16]) -> usize
 {
     let mut m = wide(line[first]);
     p[first] = m as u16;
+    let mut count = 0;
     let mut i = first;
     while i < last {
         i += 1;
         m = lesser_u32(m, wide(line[i]));
+        count += 1;
         p[i] = m as u16;
     }
-    last - first
+    count
 }
 
 // Entry i of q becomes the least of the samples i to `last`, for each i from `first` on. Returns the number of comparisons.
@@ -44,13 +62,15 @@ fn behind(line: &[u16], first: usize, last: usize, q: &mut [u16]) -> usize
 {
     let mut m = wide(line[last]);
     q[last] = m as u16;
+    let mut count = 0;
     let mut i = last;
     while first < i {
         i -= 1;
         m = lesser_u32(m, wide(line[i]));
+        count += 1;
         q[i] = m as u16;
     }
-    last - first
+    count
 }
 
 // The last sample of the block of k that starts at `first`, on a line of n.
@@ -100,30 +120,23 @@ pub fn last_block(n: usize, k: usize) -> usize
 }
 
 // The least over the window that begins at sample a, from the block minima x at its first sample and y at its last. The last lies in the block that
-// starts at c, in the line's first block where a is 0.
-fn pick(x: u16, y: u16, a: usize, c: usize) -> u16
-    ensures { λ r. ⌜ ((d : ℕ) → (0 < a → d ≡ c) → (a ≡ 0 → d ≡ 0) → r ≡ choose min a d x y) ⌝ }
+// starts at c, in the line's first block where a is 0. Only a window in two blocks takes a comparison.
+fn pick(x: u16, y: u16, a: usize, c: usize) -> Least
+    ensures { λ r. ⌜ ((d : ℕ) → (0 < a → d ≡ c) → (a ≡ 0 → d ≡ 0) → (r .value ≡ choose min a d x y) × (r .comparisons ≡ cond (ltb a d) 1 0)) ⌝ }
 {
     if a == 0 {
-        return y;
+        return untouched(y);
     }
     if a == c {
-        return y;
+        return untouched(y);
     }
     if c < a {
-        return x;
+        return untouched(x);
     }
-    lesser_u16(x, y)
-}
-
-// 1 where that window lies in two blocks.
-fn crosses(a: usize, c: usize) -> usize
-    ensures { λ r. ⌜ ((d : ℕ) → (0 < a → d ≡ c) → (a ≡ 0 → d ≡ 0) → r ≡ cond (ltb a d) 1 0) ⌝ }
-{
-    if a == 0 {
-        return 0;
+    Least {
+        value: lesser_u16(x, y),
+        comparisons: 1,
     }
-    if a < c { 1 } else { 0 }
 }
 
 // The windows from `from` to before `end`, which are cut off at the line's ends. Returns the number of comparisons.
@@ -145,23 +158,27 @@ fn meet_cut(
     let mut i = from;
     while i < end {
         let a = less(i, s);
-        line[i] = pick(q[a], p[high(i, s, n)], a, c);
-        count += crosses(a, c);
+        let least = pick(q[a], p[high(i, s, n)], a, c);
+        line[i] = least.value;
+        count += least.comparisons;
         i += 1;
     }
     count
 }
 
-// Whole windows that lie in two blocks: m of them, of which the first begins at a.
-fn join_run(line: &mut [u16], s: usize, a: usize, m: usize, p: &[u16], q: &[u16])
+// Whole windows that lie in two blocks: m of them, of which the first begins at a. Returns the number of comparisons.
+fn join_run(line: &mut [u16], s: usize, a: usize, m: usize, p: &[u16], q: &[u16]) -> usize
     requires { ⌜ (a + 2 * s + m ≤ 1024) × (a + s + m ≤ length (now line)) × (a + 2 * s + m ≤ length (now p)) × (a + 2 * s + m ≤ length (now q)) ⌝ }
-    ensures { λ _. ⌜ Written (λ i. min (entry (now (q .entry)) (i - s)) (entry (now (p .entry)) (i + s))) (now (line .entry)) (now (line .exit)) (a + s) (a + s + m) ⌝ }
+    ensures { λ r. ⌜ (r ≡ m) × Written (λ i. min (entry (now (q .entry)) (i - s)) (entry (now (p .entry)) (i + s))) (now (line .entry)) (now (line .exit)) (a + s) (a + s + m) ⌝ }
 {
+    let mut count = 0;
     let mut i = 0;
     while i < m {
         line[a + s + i] = lesser_u16(q[a + i], p[a + 2 * s + i]);
+        count += 1;
         i += 1;
     }
+    count
 }
 
 // The m whole windows. Returns the number of comparisons.
@@ -174,8 +191,7 @@ fn meet_whole(line: &mut [u16], s: usize, m: usize, p: &[u16], q: &[u16]) -> usi
     while a < m {
         line[a + s] = p[a + 2 * s];
         let some = lesser_usize(2 * s, m - a - 1);
-        join_run(line, s, a + 1, some, p, q);
-        count += some;
+        count += join_run(line, s, a + 1, some, p, q);
         a += 2 * s + 1;
     }
     count

@@ -33,8 +33,8 @@ returns c =
     let f = masked z (d .mask .now) (d .frame .now) in
     let m = r .ensures .0 ∙ entries-all z (mapEntry z (d .k) (d .a) f) (values z (d .map .now)) in
     let p = r .ensures .1 .0 ∙ bytes-all z (cleared z (d .k) (d .a) f) (pixels z (d .picture .now)) in
-    let w = r .ensures .1 .1 in
-    λ i. record { frame = d .frame .now; map = m i; picture = p i; work = w i }
+    let w = r .ensures .1 .1 .0 in
+    (r .ensures .1 .1 .1, λ i. record { frame = d .frame .now; map = m i; picture = p i; work = w i })
 
 pub clear-whole-spec : {M : Type 1} → statement M
 clear-whole-spec =

@@ -37,8 +37,11 @@ returns c =
     let g = s .pre .0 in
     let n = 2 * (d .v .wide * d .v .tall) + 2 * (d .p .wide * d .p .tall) in (
       lines-fit (f .last .0) (d .v) (d .p) (d .k) (d .a) (part (d .p .top) (d .p .left) (boxSeen (d .v) (d .mask .now))) (boxPixels (d .v) (d .mask .now) (d .frame .now)) (g .2) (g .3) (f .ensures .0 _ (rw (g .2, g .3) (p .ensures .0))),
-      same-after (d .work .now) (p .last .0) (f .last .0) (2 * (d .v .wide * d .v .tall)) (2 * (d .p .w * d .p .h) + 2 * (d .p .wide * d .p .tall)) n
-          (p .ensures .1) (f .ensures .1) (omega arith) (rw (g .2, g .3) (omega arith)),
+      (
+        same-after (d .work .now) (p .last .0) (f .last .0) (2 * (d .v .wide * d .v .tall)) (2 * (d .p .w * d .p .h) + 2 * (d .p .wide * d .p .tall)) n
+            (p .ensures .1 .0) (f .ensures .1) (omega arith) (rw (g .2, g .3) (omega arith)),
+        p .ensures .1 .1,
+      ),
     )
 
 pub lines-spec : {M : Type 1} → statement M

@@ -139,7 +139,10 @@ returns c =
       map,
       (
         picture-left z (d .k) (d .a) (d .mask .now) (d .frame .now) g (d .f) (d .p) (d .o) n (t .result) (t .ensures) (d .map .now) (m .last .0) (d .picture .now) (x .last .0) map (x .ensures),
-        c .before .wipe .ensures ∙ wiped-same z (d .work .now) (l .last .0) (2 * (d .f .w * d .f .h) + 2 * (d .p .w * d .p .h)) (l .kept .0) (room-for s) (rw (b .ensures, w .ensures) at (l .ensures .1)),
+        (
+          c .before .wipe .ensures ∙ wiped-same z (d .work .now) (l .last .0) (2 * (d .f .w * d .f .h) + 2 * (d .p .w * d .p .h)) (l .kept .0) (room-for s) (rw (b .ensures, w .ensures) at (l .ensures .1 .0)),
+          rw (b .ensures) at (l .ensures .1 .1),
+        ),
       ),
     )
 

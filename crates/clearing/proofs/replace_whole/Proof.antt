@@ -2,10 +2,13 @@
 use mathlib.Core.Path.{_∙_, ap}
 use mathlib.Core.List.{List}
 use Prim.Native.Nat.{ℕ, _+_, _*_}
+use Rattle.rules.specs.declared.Rect.{Rect}
 use Rattle.rules.specs.Shape.{described}
 use Rattle.rules.specs.Transmission.{mapEntry}
 use Rattle.rules.specs.Picture.{cleared}
 use Rattle.rules.specs.Buffers.{pixels, masked, values, entries, bytes, patch, near, replace, reach}
+use Rattle.rules.specs.Count.{frameComparisons}
+use Rattle.clearing.specs.Call.{shapeOf}
 use Rattle.clearing.proofs.Grown.{grown-by, nested-grown, grown-entries, grown-bytes, given-after}
 use native.Mathlib.Omega.{arith}
 use borrow.Author.Needs.{needs}
@@ -42,7 +45,6 @@ refresh-requires c κs =
     let s = g .before .before .before .before .before .before .before .before .before .before .before .before .before .before .before in
     let d = s .args in
     let z = described (d .z) in
-    let q = reach (d .k) in
     let i = s .pre .1 .1 .0 in
     let l = s .pre .1 .0 in
     let f = g .before .before .before .grow in
@@ -51,8 +53,7 @@ refresh-requires c κs =
     let paste = g .before .before .before .before .before .before .before .before .paste in (
       (
         given-after z (d .k) (d .a) (d .mask .now) (d .frame .now) (paste .last .0) (paste .kept .0) (s .pre .0),
-        nested-grown z (d .c) i (d .k) (f .result) (p .result) (o .result) (grown-by z (d .c) (f .result) (2 * q) (f .ensures) (omega arith))
-            (grown-by z (d .c) (p .result) (q + d .k .r) (p .ensures) (omega arith)) (grown-by z (d .c) (o .result) q (o .ensures) (omega arith)),
+        nested-grown z (d .c) i (d .k) (f .result) (p .result) (o .result) _ (f .ensures) (p .ensures) (o .ensures) (omega arith) (omega arith),
       ),
       l,
     )
@@ -91,8 +92,11 @@ returns c =
     r .ensures .1 .0
     ∙ grown-bytes z (d .c) i q (o .result) rect _ (pixels z (d .picture .now))
     ∙ ap (λ (l : List ℕ). bytes z (patch (near q (d .c)) (cleared z (d .k) (d .a) (masked z (d .mask .now) l)) (pixels z (d .picture .now)))) frame in
-    let w = r .ensures .1 .1 in
-    λ i. record { frame = frame i; map = m i; picture = p i; work = w i }
+    let w = r .ensures .1 .1 .0 in
+    let f = g .before .before .before .grow in
+    let box = grown-by z (d .c) (f .result) (2 * d .k .s + 4 * d .k .r) (f .ensures) (omega arith) in
+    let n = r .ensures .1 .1 .1 ∙ ap (λ (b : Rect). frameComparisons (shapeOf b) (d .k .s)) box in
+    (n, λ i. record { frame = frame i; map = m i; picture = p i; work = w i })
 
 pub replace-whole-spec : {M : Type 1} → statement M
 replace-whole-spec =

@@ -1,7 +1,7 @@
--- `coarse::prepare` meets its contract. The loop's invariant is `Going`: the columns have taken i rows, and i - s rows of samples stand in the work area.
--- Assumes nothing.
+-- `coarse::prepare` meets its contract. The loop's invariant is `Going`: the columns have taken i rows, i - s rows of samples stand in the work area, and
+-- the comparisons so far are counted. Assumes nothing.
 use mathlib.Core.Path.{_≡_, refl, sym, _∙_}
-use Prim.Native.Nat.{_+_, _-_, _*_, _≤_, _<_, min}
+use Prim.Native.Nat.{ℕ, _+_, _-_, _*_, _≤_, _<_, min}
 use native.Mathlib.Nat.{mul-le-mul}
 use native.Mathlib.Omega.{arith}
 use lib.ListN.{length}
@@ -10,7 +10,8 @@ use Rattle.planes.specs.View.{boxOf}
 use Rattle.planes.specs.Stage.{boxPixels}
 use Rattle.planes.proofs.Shown.{given-in}
 use Rattle.windows.specs.Span.{windowed}
-use Rattle.columns.specs.Down.{RowIs}
+use Rattle.columns.specs.Down.{RowIs, downCount}
+use Rattle.columns.proofs.Counted.{Counted, counted-none, counted-more, counted-all}
 use Rattle.coarse.specs.Rows.{leastAlong}
 use Rattle.coarse.proofs.Minima.{columns-start, ratio-le, sample-by}
 use Rattle.coarse.proofs.Going.{Going, samples-start, samples-end}
@@ -18,10 +19,10 @@ use Rattle.coarse.proofs.prepare.Statement.{statement}
 use Rattle.coarse.proofs.prepare.Tie as tie
 
 abbrev Inv-loop : tie.InvT-loop
-Inv-loop work₀ mask frame v k a row₀ p₀ q₀ store₀ ahead₀ out₀ by w h s i₀ work row p q store ahead out i = Going v k a mask frame work₀ work row p q store ahead out i
+Inv-loop work₀ mask frame v k a row₀ p₀ q₀ store₀ ahead₀ out₀ by w h s count₀ i₀ work row p q store ahead out count i = Going v k a mask frame work₀ work row p q store ahead out count i
 
 abbrev μ-loop : tie.MeasureT-loop
-μ-loop work₀ mask frame v k a row₀ p₀ q₀ store₀ ahead₀ out₀ by w h s i₀ work row p q store ahead out i = v .tall + k .s - i
+μ-loop work₀ mask frame v k a row₀ p₀ q₀ store₀ ahead₀ out₀ by w h s count₀ i₀ work row p q store ahead out count i = v .tall + k .s - i
 
 -- ---- where the call and the turn began, seen from a row's two calls
 
@@ -51,6 +52,7 @@ loop-holds c =
       out-long = refl;
       columns = columns-start _ _ _ _ _ _;
       samples = samples-start (d .v) (d .k) (d .a) (d .mask .now) (d .frame .now) (d .work .now);
+      counted = counted-none (d .k .s) (d .v .wide) (d .v .tall);
     }
 
 add-loop : tie.Need-add-loop Inv-loop μ-loop
@@ -73,6 +75,23 @@ take-row-requires c κs =
     let i = t .before .loop .inv in
     let g = start-of t .pre .0 in
     ((given-in g, omega (arith, g .settings), g .shown, g .bytes, g .light, t .before .before .scales-of .ensures), (i .row-long, i .p-long, i .q-long))
+
+-- the comparisons so far, with n down the columns
+more : (c : tie.After-take-row Inv-loop μ-loop) (n : ℕ) → let t = turn-of c in let d = start-of t .args in let l = t .before .loop in let e = l .count + c .take-row .result + n in
+    n ≡ d .v .wide * downCount (d .k .s) (d .v .tall) (l .i) → Counted (d .k .s) (d .v .wide) (d .v .tall) e (l .i + 1) × (e ≤ 6 * (1024 * 1024))
+more c n e =
+    let t = turn-of c in
+    let s = start-of t in
+    let v = s .args .v in
+    let g = s .pre .0 in
+    let l = t .before .loop in
+    let m : v .wide * v .tall ≤ 1024 * 1024 = mul-le-mul {n₂ = 1024} {m₂ = 1024} (omega (arith, g .size .wide, g .fits .columns)) (omega (arith, g .size .tall, g .fits .rows)) in
+    let o =
+    counted-more (s .args .k .s) (v .wide) (v .tall) (l .count) (l .i) (c .take-row .result) n (g .down) (l .inv .counted) (t .loop-test .taken) (c .take-row .ensures .1) e in
+    (o .0, omega (arith, o .1))
+
+add-count : tie.Need-add-count Inv-loop μ-loop
+add-count c = omega (arith, more (c .before .before .before) _ refl .1)
 
 -- the row is as long as it was
 row-long : (c : tie.After-take-row Inv-loop μ-loop) → length (c .take-row .last .1 .1 .1 .1 .1 .1 .1 .0) ≡ 1024
@@ -107,7 +126,7 @@ down-requires c κs =
 -- the minima that come out
 mins : (c : tie.After-down Inv-loop μ-loop) → let t = turn-of (row-of c) in let d = start-of t .args in let i = t .before .loop .i in d .k .s ≤ i
     → RowIs (c .down .last .1 .1 .1 .1 .1 .1 .1 .0) (λ r x. windowed min (λ u. leastAlong (d .v) (d .a) (d .k .s) (d .mask .now) (d .frame .now) u x) (d .k .s) (d .v .tall) r) (i - d .k .s) (d .v .wide)
-mins c le = c .down .ensures .1 .0 _ (turn-of (row-of c) .before .loop .inv .columns) (row-of c .take-row .ensures) le
+mins c le = c .down .ensures .1 .0 _ (turn-of (row-of c) .before .loop .inv .columns) (row-of c .take-row .ensures .0) le
 
 -- come out for a row of the box
 low : (c : tie.After-down Inv-loop μ-loop) → let t = turn-of (row-of c) in let d = start-of t .args in d .k .s ≤ t .before .loop .i → t .before .loop .i - d .k .s < d .v .tall
@@ -115,6 +134,9 @@ low c le = omega (arith, turn-of (row-of c) .loop-test .taken)
 
 out-long : (c : tie.After-down Inv-loop μ-loop) → length (c .down .last .1 .1 .1 .1 .1 .1 .1 .0) ≡ 1024
 out-long c = c .down .kept .1 .1 .1 .1 .1 .1 .1 .0 ∙ turn-of (row-of c) .before .loop .inv .out-long
+
+add-count-2 : tie.Need-add-count-2 Inv-loop μ-loop
+add-count-2 c = let o = c .before .before .before in omega (arith, more (row-of o) (o .down .result) (o .down .ensures .1 .1) .1)
 
 slice-aggregate-give-row : tie.Need-slice-aggregate-give-row Inv-loop μ-loop
 slice-aggregate-give-row c = sym (out-long (c .before .before .before .before .before))
@@ -164,10 +186,11 @@ loop-again c =
       store-long = o .down .kept .1 .1 .1 .1 .1 .0 ∙ i .store-long;
       ahead-long = o .down .kept .1 .1 .1 .1 .1 .1 .0 ∙ i .ahead-long;
       out-long = out-long o;
-      columns = o .down .ensures .0 _ (i .columns) (r .take-row .ensures);
+      columns = o .down .ensures .0 _ (i .columns) (r .take-row .ensures .0);
       samples =
           c .before .give-row .ensures (d .work .now) (sample (boxOf (d .v)) (d .k) (d .a) (boxPixels (d .v) (d .mask .now) (d .frame .now))) (i .samples)
           (λ le. sample-by (d .v) (d .k) (d .a) (d .mask .now) (d .frame .now) out (n - d .k .s) (low o le) (mins o le));
+      counted = more r (o .down .result) (o .down .ensures .1 .1) .0;
     }
 
 same-length : tie.Need-same-length Inv-loop μ-loop
@@ -182,7 +205,7 @@ returns c =
     let e : l .i - d .k .s ≡ d .v .tall = omega (arith, l .inv .most, c .loop-test .left) in (
       samples-end (d .v) (d .k) (d .a) (d .mask .now) (d .frame .now) (d .work .now) (l .work) (l .i - d .k .s) e
           (λ i. omega (arith, u .shared-slice-known2 .given i)) (omega (arith, s .pre .1, l .inv .long)) (l .inv .samples),
-      l .inv .samples .rest,
+      (l .inv .samples .rest, counted-all (boxOf (d .v)) (d .k .s) (l .count) (l .i) (s .pre .0 .down) (l .inv .counted) (omega (arith, l .inv .most, c .loop-test .left))),
     )
 
 pub prepare-spec : {M : Type 1} → statement M
@@ -198,11 +221,13 @@ prepare-spec =
     slice-aggregate-take-row-2
     slice-aggregate-take-row-3
     take-row-requires
+    add-count
     slice-aggregate-down
     slice-aggregate-down-2
     slice-aggregate-down-3
     slice-aggregate-down-4
     down-requires
+    add-count-2
     slice-aggregate-give-row
     give-row-requires
     add-i

@@ -1,12 +1,16 @@
--- `coarse::take_row` meets its contract: past the last row there is nothing to show. Assumes nothing.
+-- `coarse::take_row` meets its contract: past the last row there is nothing to show and nothing to compare. Assumes nothing.
+use mathlib.Core.Path.{_∙_}
 use native.Mathlib.Omega.{arith}
 use borrow.Author.Needs.{needs}
+use Rattle.columns.proofs.Counted.{along-row, along-none}
 use Rattle.coarse.proofs.Minima.{along-is}
 use Rattle.coarse.proofs.take_row.Statement.{statement}
 use Rattle.coarse.proofs.take_row.Tie as tie
 
 returns : tie.Need-returns
-returns c = λ h. absurd (omega (arith, c .if1 .taken))
+returns c =
+    let d = c .before .before .before .before .before .before .before .args in
+    (λ h. absurd (omega (arith, c .if1 .taken)), along-none (d .s) (d .v .wide) (d .v .tall) (d .i) (c .if1 .taken))
 
 row-start-requires : tie.Need-row-start-requires
 row-start-requires c κs =
@@ -43,12 +47,16 @@ same-length-3 : tie.Need-same-length-3
 same-length-3 c = search needs
 
 returns-2 : tie.Need-returns-2
-returns-2 c h =
+returns-2 c =
     let k = c .before .before .before .before .before .before .shrink in
     let r = c .before .before .before .before .before .before .before .before .before .before .before .before in
-    let d = r .before .before .before .before .before .before .before .before .before .before .args in
-    along-is (d .v) (d .a) (d .s) (d .mask .now) (d .frame .now) (d .i) (r .before .row-start .result) (r .ratio-row .last .0) (k .last .0)
-    (r .before .row-start .ensures .0) (r .ratio-row .ensures) (k .ensures .0)
+    let e = r .before .before .before in
+    let d = e .before .before .before .before .before .before .before .args in (
+      λ h.
+          along-is (d .v) (d .a) (d .s) (d .mask .now) (d .frame .now) (d .i) (r .before .row-start .result) (r .ratio-row .last .0) (k .last .0)
+          (r .before .row-start .ensures .0) (r .ratio-row .ensures) (k .ensures .0),
+      k .ensures .1 ∙ along-row (d .s) (d .v .wide) (d .v .tall) (d .i) (omega (arith, e .if1 .left)),
+    )
 
 pub take-row-spec : {M : Type 1} → statement M
 take-row-spec =

@@ -1,4 +1,4 @@
--- `columns::both` meets its contract. The invariant: the first x entries are the lesser ones. Assumes nothing.
+-- `columns::both` meets its contract. The invariant: the first x entries are the lesser ones, with a comparison each. Assumes nothing.
 use mathlib.Core.Path.{_≡_, refl}
 use Prim.Native.Nat.{_+_, _-_, _≤_, min, zero-le}
 use native.Mathlib.Omega.{arith}
@@ -10,13 +10,13 @@ use Rattle.columns.proofs.both.Statement.{statement}
 use Rattle.columns.proofs.both.Tie as tie
 
 abbrev Inv-loop : tie.InvT-loop
-Inv-loop out₀ store at ahead n x₀ out x = (x ≤ n) × (length out ≡ length out₀) × Written (λ i. min (entry store (at + i)) (entry ahead i)) out₀ out 0 x
+Inv-loop out₀ store at ahead n count₀ x₀ out count x = (x ≤ n) × (count ≡ x) × (length out ≡ length out₀) × Written (λ i. min (entry store (at + i)) (entry ahead i)) out₀ out 0 x
 
 abbrev μ-loop : tie.MeasureT-loop
-μ-loop out₀ store at ahead n x₀ out x = n - x
+μ-loop out₀ store at ahead n count₀ x₀ out count x = n - x
 
 loop-holds : tie.Need-loop-holds Inv-loop μ-loop
-loop-holds c = (omega arith, refl, written-none _ _ _)
+loop-holds c = (omega arith, refl, refl, written-none _ _ _)
 
 add-lesser-u16 : tie.Need-add-lesser-u16 Inv-loop μ-loop
 add-lesser-u16 c = omega arith
@@ -42,6 +42,9 @@ mul-out c = omega arith
 slice-write-out : tie.Need-slice-write-out Inv-loop μ-loop
 slice-write-out c = omega arith
 
+add-count : tie.Need-add-count Inv-loop μ-loop
+add-count c = omega arith
+
 add-x : tie.Need-add-x Inv-loop μ-loop
 add-x c = omega arith
 
@@ -51,13 +54,13 @@ loop-less c = omega arith
 loop-again : tie.Need-loop-again Inv-loop μ-loop
 loop-again c =
     let l = c .before .before .before .before in
-    (omega arith, simp length-set (l .loop .inv .1), written-more _ _ _ _ (l .loop .x) _ (l .loop .inv .2) zero-le (omega arith) (c .lesser-u16 .ensures))
+    (omega arith, omega arith, simp length-set (l .loop .inv .2), written-more _ _ _ _ (l .loop .x) _ (l .loop .inv .3) zero-le (omega arith) (c .lesser-u16 .ensures))
 
 same-length : tie.Need-same-length Inv-loop μ-loop
-same-length c = c .before .loop .inv .1
+same-length c = c .before .loop .inv .2
 
 returns : tie.Need-returns Inv-loop μ-loop
-returns c = let z : c .before .loop .x ≡ c .before .before .before .before .before .args .n = omega arith in rw z at (c .before .loop .inv .2)
+returns c = let z : c .before .loop .x ≡ c .before .before .before .before .before .args .n = omega arith in (omega arith, rw z at (c .before .loop .inv .3))
 
 pub both-spec : {M : Type 1} → statement M
 both-spec =
@@ -74,6 +77,7 @@ both-spec =
     lesser-u16-requires
     mul-out
     slice-write-out
+    add-count
     add-x
     loop-less
     loop-again

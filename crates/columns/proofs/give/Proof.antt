@@ -65,7 +65,7 @@ returns-3 c =
     record {
       few = λ h. absurd (omega arith);
       whole = λ h. absurd (o .if2 .left h);
-      two = λ h g. (refl, λ x u. c .before .before .both .ensures .is x zero-le u);
+      two = λ h g. (c .before .before .both .ensures .0, λ x u. c .before .before .both .ensures .1 .is x zero-le u);
     }
 
 pub give-spec : {M : Type 1} → statement M

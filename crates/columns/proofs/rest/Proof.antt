@@ -94,8 +94,8 @@ returns-3 c =
     let b = t .before .before in
     let s = b .before .before .before .before in
     let e = b .last-block .ensures in
-    rest-two _ _ _ _ _ _ _ (some s) (s .pre .0) (s .pre .1) (omega (arith, later t))
-    (λ x h. c .before .before .both .ensures .is x zero-le h ∙ rw e)
+    rest-two _ _ _ _ _ _ _ (some s) (s .pre .0) (s .pre .1) _ (omega (arith, later t)) (c .before .before .both .ensures .0)
+    (λ x h. c .before .before .both .ensures .1 .is x zero-le h ∙ rw e)
 
 pub rest-spec : {M : Type 1} → statement M
 rest-spec =

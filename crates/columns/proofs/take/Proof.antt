@@ -59,14 +59,17 @@ done c =
 
 -- few comparisons
 few : (c : tie.After-close) → let p = c .before .before .before .before in let g = p .before .before .before .before in let j = g .before .before .before .before .before .before in
-    j .join .result + g .give .result + c .close .result ≤ 2 + j .before .before .before .before .before .before .args .v
-few c = taken-few _ _ _ _ _ (done c .count)
+    j .join .result + g .give .result + c .close .result ≤ 1024 * 1025
+few c =
+    let j = c .before .before .before .before .before .before .before .before .before .before .before .before .before .before in
+    let s = j .before .before .before .before .before .before in
+    taken-few _ _ _ _ _ _ (done c .count) (s .pre .4) (omega (arith, s .pre .0, s .pre .1))
 
 add-result : tie.Need-add-result
-add-result c = omega (arith, few (c .before .before), c .before .before .before .before .before .before .before .before .before .before .before .before .before .before .before .before .before .before .before .before .before .before .pre)
+add-result c = omega (arith, few (c .before .before))
 
 add-result-2 : tie.Need-add-result-2
-add-result-2 c = omega (arith, few (c .before .before), c .before .before .before .before .before .before .before .before .before .before .before .before .before .before .before .before .before .before .before .before .before .before .pre)
+add-result-2 c = omega (arith, few (c .before .before))
 
 same-length : tie.Need-same-length
 same-length c = search needs

@@ -1,9 +1,11 @@
 -- `haze::clear` meets its promise: by its refusal number. Assumes nothing.
-use mathlib.Core.Path.{_≡_, _∙_, sym}
+use mathlib.Core.Path.{_≡_, _∙_, sym, ap}
 use Prim.Native.Nat.{ℕ}
+use Rattle.rules.specs.declared.Outcome.the-variants.{Done, Refused}
 use Rattle.rules.specs.Setup.{Setup, handed}
+use Rattle.rules.specs.Count.{clearComparisons}
 use Rattle.rules.specs.Promise.{Lent, lentOf, noClear, afterClear}
-use Rattle.rules.proofs.Answers.{refused, done, kept, made}
+use Rattle.rules.proofs.Answers.{or-refused, or-done, kept, made}
 use Rattle.haze.proofs.Accepted.{given, loan}
 use Rattle.refusals.proofs.Accepted.{clear-accepted}
 use borrow.Author.Needs.{needs}
@@ -33,7 +35,7 @@ returns c =
     let j = c .before .refuse-clear in
     let h = c .if1 .taken in
     record {
-      answer = refused (j .result) (number s) (j .ensures) h;
+      answer = or-refused Done Refused (j .result) (number s) (clearComparisons (setup s)) (j .ensures) h;
       after = kept (j .result) (number s) (afterClear (setup s) (old s)) (old s) (j .ensures) h;
     }
 
@@ -59,7 +61,11 @@ returns-2 c =
     let i = w .before .before .before .before in
     let s = i .before .before .before .before .before .before in
     let e = zero i in
-    record { answer = done (number s) e; after = w .clear-whole .ensures ∙ made (number s) (afterClear (setup s) (old s)) (old s) e }
+    let d = w .clear-whole .ensures in
+    record {
+      answer = ap Done (d .0) ∙ or-done Done Refused (number s) (clearComparisons (setup s)) e;
+      after = d .1 ∙ made (number s) (afterClear (setup s) (old s)) (old s) e;
+    }
 
 pub clear-spec : {M : Type 1} → statement M
 clear-spec =

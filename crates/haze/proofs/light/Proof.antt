@@ -1,4 +1,4 @@
--- `haze::light` meets its contract: the number of the refusal, or the light that is found. Assumes nothing.
+-- `haze::light` meets its contract: the number of the refusal, or what is found. Assumes nothing.
 use mathlib.Core.Path.{_≡_, sym, ap, _∙_}
 use borrow.Author.Needs.{needs}
 use Rattle.rules.specs.declared.Found.the-variants.{Light, Refused}

@@ -1,16 +1,18 @@
 -- `haze::replace` meets its promise: by its refusal number. Assumes nothing.
-use mathlib.Core.Path.{_≡_, _∙_, sym}
+use mathlib.Core.Path.{_≡_, _∙_, sym, ap}
 use Prim.Native.Nat.{ℕ}
+use Rattle.rules.specs.declared.Outcome.the-variants.{Done, Refused}
 use Rattle.rules.specs.Setup.{Setup, handed}
+use Rattle.rules.specs.Count.{replaceComparisons}
 use Rattle.rules.specs.Promise.{Lent, lentOf, noReplace, afterReplace}
-use Rattle.rules.proofs.Answers.{refused, done, kept, made}
+use Rattle.rules.proofs.Answers.{or-refused, or-done, kept, made}
 use Rattle.haze.proofs.Accepted.{given, loan}
 use Rattle.refusals.proofs.Accepted.{replace-accepted}
 use borrow.Author.Needs.{needs}
 use Rattle.haze.proofs.replace.Statement.{statement}
 use Rattle.haze.proofs.replace.Tie as tie
 
--- the setup, what stood in the buffers, the call's refusal number, and what an accepted call leaves
+-- the setup, what stood in the buffers, the call's refusal number, and what an accepted call counts and leaves
 abbrev setup : tie.Start → Setup
 setup s = handed (s .args .z) (s .args .k) (s .args .a) (s .args .mask .now)
 
@@ -19,6 +21,9 @@ old s = lentOf (s .args .frame .now) (s .args .map .now) (s .args .picture .now)
 
 abbrev number : tie.Start → ℕ
 number s = noReplace (setup s) (s .args .c) (s .args .new .now) (old s)
+
+abbrev count : tie.Start → ℕ
+count s = replaceComparisons (setup s) (s .args .c)
 
 abbrev new : tie.Start → Lent
 new s = afterReplace (setup s) (s .args .c) (s .args .new .now) (old s)
@@ -36,7 +41,7 @@ returns c =
     let j = c .before .refuse-replace in
     let h = c .if1 .taken in
     record {
-      answer = refused (j .result) (number s) (j .ensures) h;
+      answer = or-refused Done Refused (j .result) (number s) (count s) (j .ensures) h;
       after = kept (j .result) (number s) (new s) (old s) (j .ensures) h;
     }
 
@@ -65,7 +70,11 @@ returns-2 c =
     let i = w .before .before .before .before .before in
     let s = i .before .before .before .before .before .before .before in
     let e = zero i in
-    record { answer = done (number s) e; after = w .replace-whole .ensures ∙ made (number s) (new s) (old s) e }
+    let d = w .replace-whole .ensures in
+    record {
+      answer = ap Done (d .0) ∙ or-done Done Refused (number s) (count s) e;
+      after = d .1 ∙ made (number s) (new s) (old s) e;
+    }
 
 pub replace-spec : {M : Type 1} → statement M
 replace-spec =

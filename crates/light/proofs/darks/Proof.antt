@@ -1,4 +1,4 @@
--- `light::darks` meets its contract. The loop's invariant is `Going`: the columns have taken i rows, and i - s rows are given. Assumes nothing.
+-- `light::darks` meets its contract. The loop's invariant is `Going`: the columns have taken i rows, i - s rows are given, and the comparisons are counted. Assumes nothing.
 use mathlib.Core.Path.{_≡_, refl, sym, _∙_}
 use Prim.Native.Nat.{ℕ, _+_, _-_, _*_, _≤_, _<_, min}
 use native.Mathlib.Nat.{mul-le-mul}
@@ -6,7 +6,8 @@ use native.Mathlib.Omega.{arith}
 use lib.ListN.{length, getD}
 use Rattle.rules.specs.Shape.{described}
 use Rattle.windows.specs.Span.{windowed}
-use Rattle.columns.specs.Down.{RowIs}
+use Rattle.columns.specs.Down.{RowIs, downCount}
+use Rattle.columns.proofs.Counted.{Counted, counted-none, counted-more, counted-all}
 use Rattle.light.specs.Steps.{lane, leastAlong, levelAt}
 use Rattle.light.proofs.Rows.{zeros}
 use Rattle.light.proofs.Counts.{hits-below}
@@ -17,11 +18,11 @@ use Rattle.light.proofs.darks.Statement.{statement}
 use Rattle.light.proofs.darks.Tie as tie
 
 abbrev Inv-loop : tie.InvT-loop
-Inv-loop z mask frame work₀ apart₀ tops₀ row₀ p₀ q₀ store₀ ahead₀ out₀ levels₀ w h s i₀ work apart tops row p q store ahead out levels i =
-    Going (described z) s mask frame work₀ work apart tops row p q store ahead out levels i
+Inv-loop z mask frame work₀ apart₀ tops₀ row₀ p₀ q₀ store₀ ahead₀ out₀ levels₀ w h s count₀ i₀ work apart tops row p q store ahead out levels count i =
+    Going (described z) s mask frame work₀ work apart tops row p q store ahead out levels count i
 
 abbrev μ-loop : tie.MeasureT-loop
-μ-loop z mask frame work₀ apart₀ tops₀ row₀ p₀ q₀ store₀ ahead₀ out₀ levels₀ w h s i₀ work apart tops row p q store ahead out levels i = h + s - i
+μ-loop z mask frame work₀ apart₀ tops₀ row₀ p₀ q₀ store₀ ahead₀ out₀ levels₀ w h s count₀ i₀ work apart tops row p q store ahead out levels count i = h + s - i
 
 -- ---- where the call and the turn began, seen from a row's calls
 
@@ -52,6 +53,7 @@ loop-holds c =
       levels-long = zeros 1024;
       columns = columns-start _ _ _ _ _ _;
       given = given-start (described (a .z)) (a .k .s) (a .mask .now) (a .frame .now) (a .work .now) (a .apart .now) (a .tops .now) (s .pre .3);
+      counted = counted-none (a .k .s) (a .z .w) (a .z .h);
     }
 
 add-loop : tie.Need-add-loop Inv-loop μ-loop
@@ -78,6 +80,21 @@ take-row-requires c κs =
 -- the row is as long as it was
 row-long : (c : tie.After-take-row Inv-loop μ-loop) → length (c .take-row .last .1 .1 .1 .1 .1 .0) ≡ 1024
 row-long c = c .take-row .kept .1 .1 .1 .1 .1 .0 ∙ turn-of c .before .loop .inv .row-long
+
+-- the comparisons so far, with d down the columns
+more : (c : tie.After-take-row Inv-loop μ-loop) (d : ℕ) → let t = turn-of c in let a = start-of t .args in let l = t .before .loop in let n = l .count + c .take-row .result + d in
+    d ≡ a .z .w * downCount (a .k .s) (a .z .h) (l .i) → Counted (a .k .s) (a .z .w) (a .z .h) n (l .i + 1) × (n ≤ 6 * 262144)
+more c d e =
+    let t = turn-of c in
+    let s = start-of t in
+    let l = t .before .loop in
+    let z = s .args .z in
+    let g = s .pre .0 .size in
+    let o = counted-more (s .args .k .s) (z .w) (z .h) (l .count) (l .i) (c .take-row .result) d (g .down) (l .inv .counted) (t .loop-test .taken) (c .take-row .ensures .1) e in
+    (o .0, omega (arith, o .1, g .area))
+
+add-count : tie.Need-add-count Inv-loop μ-loop
+add-count c = omega (arith, more (c .before .before .before) _ refl .1)
 
 slice-aggregate-down : tie.Need-slice-aggregate-down Inv-loop μ-loop
 slice-aggregate-down c = sym (row-long (c .before .before .before .before))
@@ -113,7 +130,7 @@ out-long c = c .down .kept .1 .1 .1 .1 .1 .1 .1 .0 ∙ turn-of (row-of c) .befor
 -- minima
 mins : (c : tie.After-down Inv-loop μ-loop) → let t = turn-of (row-of c) in let a = start-of t .args in let i = t .before .loop .i in let z = described (a .z) in a .k .s ≤ i
     → RowIs (c .down .last .1 .1 .1 .1 .1 .1 .1 .0) (λ r x. windowed min (λ u. leastAlong z (a .k .s) (a .mask .now) (a .frame .now) u x) (a .k .s) (z .h) r) (i - a .k .s) (z .w)
-mins c le = c .down .ensures .1 .0 _ (turn-of (row-of c) .before .loop .inv .columns) (row-of c .take-row .ensures) le
+mins c le = c .down .ensures .1 .0 _ (turn-of (row-of c) .before .loop .inv .columns) (row-of c .take-row .ensures .0) le
 
 -- for a row of the frame
 low : (c : tie.After-down Inv-loop μ-loop) → let t = turn-of (row-of c) in let a = start-of t .args in a .k .s ≤ t .before .loop .i → t .before .loop .i - a .k .s < a .z .h
@@ -122,6 +139,9 @@ low c le = omega (arith, turn-of (row-of c) .loop-test .taken)
 -- of bytes
 byte : (c : tie.In-loop Inv-loop μ-loop) (i : ℕ) → getD (start-of c .args .frame .now) i 0 ≤ 255
 byte c i = omega (arith, c .before .before .before .before .shared-slice-known2 .given i)
+
+add-count-2 : tie.Need-add-count-2 Inv-loop μ-loop
+add-count-2 c = let o = c .before .before .before in omega (arith, more (row-of o) (o .down .result) (o .down .ensures .1 .1) .1)
 
 slice-aggregate-give-row : tie.Need-slice-aggregate-give-row Inv-loop μ-loop
 slice-aggregate-give-row c = sym (out-long (c .before .before .before .before .before))
@@ -181,10 +201,11 @@ loop-again c =
       ahead-long = o .down .kept .1 .1 .1 .1 .1 .1 .0 ∙ i .ahead-long;
       out-long = out-long o;
       levels-long = g .kept .1 .1 .1 .1 .1 .1 .0 ∙ i .levels-long;
-      columns = o .down .ensures .0 _ (i .columns) (r .take-row .ensures);
+      columns = o .down .ensures .0 _ (i .columns) (r .take-row .ensures .0);
       given =
           g .ensures (levelAt z (a .k .s) (a .mask .now) (a .frame .now)) (a .work .now) (i .given)
           (λ le. level-is z (a .k .s) (a .mask .now) (a .frame .now) (byte t) (o .down .last .1 .1 .1 .1 .1 .1 .1 .0) (l .i - a .k .s) (low o le) (mins o le));
+      counted = more r (o .down .result) (o .down .ensures .1 .1) .0;
     }
 
 same-length : tie.Need-same-length Inv-loop μ-loop
@@ -199,9 +220,12 @@ same-length-3 c = c .before .loop .inv .tops-long ∙ sym (c .before .before .be
 returns : tie.Need-returns Inv-loop μ-loop
 returns c =
     let l = c .before .loop in
-    let a = c .before .before .before .before .before .before .args in
-    let e : l .i - a .k .s ≡ a .z .h = omega (arith, l .inv .most, c .loop-test .left) in
-    (dark-all (a .z) (a .k) (a .mask .now) (a .frame .now) (a .work .now) (l .work) (l .apart) (l .tops) (rw e at (l .inv .given)), l .inv .given .rest)
+    let s = c .before .before .before .before .before .before in
+    let a = s .args in
+    let e : l .i - a .k .s ≡ a .z .h = omega (arith, l .inv .most, c .loop-test .left) in (
+      dark-all (a .z) (a .k) (a .mask .now) (a .frame .now) (a .work .now) (l .work) (l .apart) (l .tops) (rw e at (l .inv .given)),
+      (l .inv .given .rest, counted-all (described (a .z)) (a .k .s) (l .count) (l .i) (s .pre .0 .size .down) (l .inv .counted) (omega (arith, l .inv .most, c .loop-test .left))),
+    )
 
 pub darks-spec : {M : Type 1} → statement M
 darks-spec =
@@ -215,11 +239,13 @@ darks-spec =
     slice-aggregate-take-row-2
     slice-aggregate-take-row-3
     take-row-requires
+    add-count
     slice-aggregate-down
     slice-aggregate-down-2
     slice-aggregate-down-3
     slice-aggregate-down-4
     down-requires
+    add-count-2
     slice-aggregate-give-row
     slice-aggregate-give-row-2
     give-row-requires

@@ -1,9 +1,10 @@
 -- `light::find` meets its contract, from what its parts ensure. Assumes nothing.
-use mathlib.Core.Path.{sym, _∙_}
+use mathlib.Core.Path.{sym, ap₂, _∙_}
 use native.Mathlib.Omega.{arith}
 use lib.ListN.{length, getD-replicate}
 use Rattle.rules.specs.Shape.{described}
 use Rattle.rules.specs.Good.{AcceptedLight}
+use Rattle.rules.specs.Promise.{findingOf}
 use Rattle.light.proofs.Rows.{zeros}
 use Rattle.light.proofs.Areas.{wiped-after}
 use Rattle.light.proofs.Answer.{light-given}
@@ -66,8 +67,8 @@ returns c =
     let b = c .before .before .before .before .before .before .before .before .before .before .before in
     let a = start-of b .args in
     record {
-      found = light-given (a .z) (a .k) (a .mask .now) (a .frame .now) _ _ (c .before .before .before .before .pick .ensures) (c .colour .ensures);
-      after = wiped-after (described (a .z)) (a .work .now) _ _ (b .darks .kept .1 .1 .1 .1 .0) (b .darks .ensures .1) (c .before .before .wipe .ensures);
+      found = ap₂ findingOf (light-given (a .z) (a .k) (a .mask .now) (a .frame .now) _ _ (c .before .before .before .before .pick .ensures) (c .colour .ensures)) (b .darks .ensures .1 .1);
+      after = wiped-after (described (a .z)) (a .work .now) _ _ (b .darks .kept .1 .1 .1 .1 .0) (b .darks .ensures .1 .0) (c .before .before .wipe .ensures);
     }
 
 pub find-spec : {M : Type 1} → statement M

@@ -1,15 +1,18 @@
--- `light::take_row` meets its contract: past the last row there is nothing to show. Assumes nothing.
+-- `light::take_row` meets its contract: past the last row there is nothing to show and nothing to count. Assumes nothing.
 use mathlib.Core.Path.{_∙_}
 use Prim.Native.Nat.{_+_, _*_, _≤_}
 use native.Mathlib.Omega.{arith}
 use Rattle.rules.specs.Shape.{described}
+use Rattle.columns.proofs.Counted.{along-row, along-none}
 use Rattle.light.proofs.Minima.{along-is}
 use Rattle.light.proofs.Areas.{row-end}
 use Rattle.light.proofs.take_row.Statement.{statement}
 use Rattle.light.proofs.take_row.Tie as tie
 
 returns : tie.Need-returns
-returns c h = absurd (omega (arith, c .if1 .taken))
+returns c =
+    let a = c .before .before .before .before .before .before .args in
+    (λ h. absurd (omega (arith, c .if1 .taken)), along-none (a .s) (a .z .w) (a .z .h) (a .i) (c .if1 .taken))
 
 -- where the call began, seen from a row that there is
 abbrev start-of : tie.After-least-row-arg → tie.Start
@@ -45,11 +48,13 @@ same-length-3 : tie.Need-same-length-3
 same-length-3 c = c .before .before .before .before .before .before .shrink .kept .1 .1 .1 .1 .0
 
 returns-2 : tie.Need-returns-2
-returns-2 c h =
+returns-2 c =
     let k = c .before .before .before .before .before .before .shrink in
     let r = c .before .before .before .before .before .before .before .before .before .before .before .before in
-    let a = start-of (r .before) .args in
-    along-is (described (a .z)) (a .s) (a .mask .now) (a .frame .now) (a .i) (r .least-row .last .0) (k .last .0) (r .least-row .ensures) (k .ensures .0)
+    let a = start-of (r .before) .args in (
+      λ h. along-is (described (a .z)) (a .s) (a .mask .now) (a .frame .now) (a .i) (r .least-row .last .0) (k .last .0) (r .least-row .ensures) (k .ensures .0),
+      k .ensures .1 ∙ along-row (a .s) (a .z .w) (a .z .h) (a .i) (omega (arith, r .before .before .if1 .left)),
+    )
 
 pub take-row-spec : {M : Type 1} → statement M
 take-row-spec =

@@ -7,8 +7,8 @@ use Rattle.text.proofs.show.Tie as tie
 light-requires : tie.Need-light-requires
 light-requires c κs = search needs
 
-enum-known-a : tie.Need-enum-known-a
-enum-known-a c = search needs
+enum-known-f : tie.Need-enum-known-f
+enum-known-f c = search needs
 
 clear-requires : tie.Need-clear-requires
 clear-requires c κs = search needs
@@ -17,7 +17,7 @@ put-light-requires : tie.Need-put-light-requires
 put-light-requires c κs = search needs
 
 put-outs-requires : tie.Need-put-outs-requires
-put-outs-requires c κs = search needs
+put-outs-requires c κs = search (needs, c .before .before .before .before .before .before .before .before .before .before .before .before .before .before .before .before .before .before .before .before .before .before .before .before .before .before .before .pre)
 
 enum-told : tie.Need-enum-told
 enum-told c = search needs
@@ -38,9 +38,9 @@ returns : tie.Need-returns
 returns c =
     let s = c .before .before .before .before .before .before .before .before .before .before .before .before .before .before .before .before .before .before .before .before .before .before .before .before .before .before .before .before .before .before in
     let l = c .before .before .before .before .before .before .before .before .before .before .before .before .before .before .before .before .before .before .before .before .before .before .before .light in
-    let a = c .before .before .before .before .before .before .before .before .before .before .before .before .before .before .before .before .before .before .before .before .a in
+    let f = c .before .before .before .before .before .before .before .before .before .before .before .before .before .before .before .before .before .before .before .before .f in
     let k = c .before .before .before .before .before .before .before .before .before .before .before .before .before .before .before .clear in
-    finished (s .args .z) (s .args .k) (s .args .mask .now) (record { frame = s .args .frame .now; map = s .args .map .now; picture = s .args .picture .now; work = s .args .work .now }) _ (s .pre) (l .result) _ (l .ensures) (a .given .0 .0) (k .result) _ (s .args .out .now) _ _ _ _ (a .given .1) (l .kept .1 .1 .1 .1 .0)
+    finished (s .args .z) (s .args .k) (s .args .mask .now) (record { frame = s .args .frame .now; map = s .args .map .now; picture = s .args .picture .now; work = s .args .work .now }) _ (s .pre) (l .result) _ (l .ensures) (f .given .0 .0) (k .result) _ (s .args .out .now) _ _ _ _ (f .given .1) (l .kept .1 .1 .1 .1 .0)
     (k .ensures) (k .kept .1 .1 .1 .1 .1 .0) (c .before .before .before .before .before .before .before .before .put-light .ensures .0) (c .before .before .put-outs .ensures)
 
 same-length-5 : tie.Need-same-length-5
@@ -56,7 +56,7 @@ show-spec =
     tie.close
     (tie.spec
     light-requires
-    enum-known-a
+    enum-known-f
     clear-requires
     put-light-requires
     put-outs-requires

@@ -1,6 +1,7 @@
--- `windows::ahead` meets its contract. The invariant: m is the least from `first` to i, and p has such minima up to i. Assumes nothing.
+-- `windows::ahead` meets its contract. The invariant: m is the least from `first` to i, p has such minima up to i, and there
+-- was a comparison for each sample after `first`. Assumes nothing.
 use mathlib.Core.Path.{_≡_, _∙_}
-use Prim.Native.Nat.{_-_, _≤_}
+use Prim.Native.Nat.{_+_, _-_, _≤_}
 use native.Mathlib.Omega.{arith}
 use borrow.Author.Needs.{needs}
 use lib.ListN.{length, length-set}
@@ -9,10 +10,10 @@ use Rattle.windows.proofs.ahead.Statement.{statement}
 use Rattle.windows.proofs.ahead.Tie as tie
 
 abbrev Inv-loop : tie.InvT-loop
-Inv-loop line first last p₀ m₀ i₀ p m i = (i ≤ last) × AheadTo line p₀ p first i m
+Inv-loop line first last p₀ m₀ count₀ i₀ p m count i = (i ≤ last) × AheadTo line p₀ p first i m × (count + first ≡ i)
 
 abbrev μ-loop : tie.MeasureT-loop
-μ-loop line first last p₀ m₀ i₀ p m i = last - i
+μ-loop line first last p₀ m₀ count₀ i₀ p m count i = last - i
 
 -- p is as long as at entry
 size : (c : tie.At-loop Inv-loop μ-loop) → length (c .loop .p) ≡ length (c .before .before .before .before .before .args .p .now)
@@ -37,7 +38,7 @@ slice-write-p : tie.Need-slice-write-p Inv-loop μ-loop
 slice-write-p c = omega arith
 
 loop-holds : tie.Need-loop-holds Inv-loop μ-loop
-loop-holds c = (omega arith, ahead-first _ _ (c .before .before .before .before .args .first) _ (c .wide .ensures .0) (c .wide .ensures .1))
+loop-holds c = (omega arith, ahead-first _ _ (c .before .before .before .before .args .first) _ (c .wide .ensures .0) (c .wide .ensures .1), omega arith)
 
 add-i : tie.Need-add-i Inv-loop μ-loop
 add-i c = omega arith
@@ -53,6 +54,9 @@ wide-requires-2 c κs = search needs
 
 lesser-u32-requires : tie.Need-lesser-u32-requires Inv-loop μ-loop
 lesser-u32-requires c κs = search needs
+
+add-count : tie.Need-add-count Inv-loop μ-loop
+add-count c = omega arith
 
 cast-p-2 : tie.Need-cast-p-2 Inv-loop μ-loop
 cast-p-2 c = omega arith
@@ -71,10 +75,8 @@ loop-again c =
     let l = c .before .before .before .before in (
       omega arith,
       ahead-more _ _ _ _ (l .loop .i) (l .loop .m) _ _ (l .loop .inv .1) (c .before .wide2 .ensures .0) (c .lesser-u32 .ensures) (omega (arith, size l)) (simp length-set),
+      omega arith,
     )
-
-sub-result : tie.Need-sub-result Inv-loop μ-loop
-sub-result c = omega arith
 
 same-length : tie.Need-same-length Inv-loop μ-loop
 same-length c = size (c .before)
@@ -103,11 +105,11 @@ ahead-spec =
     shared-slice-read-wide-2
     wide-requires-2
     lesser-u32-requires
+    add-count
     cast-p-2
     mul-p-2
     slice-write-p-2
     loop-less
     loop-again
-    sub-result
     same-length
     returns)

@@ -1,6 +1,7 @@
--- `windows::behind` meets its contract. The invariant: m is the least from i to `last`, and q has such minima from i on. Assumes nothing.
+-- `windows::behind` meets its contract. The invariant: m is the least from i to `last`, q has such minima from i on, and there was
+-- a comparison for each sample before `last`. Assumes nothing.
 use mathlib.Core.Path.{_≡_, _∙_}
-use Prim.Native.Nat.{_-_, _≤_}
+use Prim.Native.Nat.{_+_, _-_, _≤_}
 use native.Mathlib.Omega.{arith}
 use borrow.Author.Needs.{needs}
 use lib.ListN.{length, length-set}
@@ -9,10 +10,10 @@ use Rattle.windows.proofs.behind.Statement.{statement}
 use Rattle.windows.proofs.behind.Tie as tie
 
 abbrev Inv-loop : tie.InvT-loop
-Inv-loop line first last q₀ m₀ i₀ q m i = (first ≤ i) × BehindTo line q₀ q last i m
+Inv-loop line first last q₀ m₀ count₀ i₀ q m count i = (first ≤ i) × BehindTo line q₀ q last i m × (count + i ≡ last)
 
 abbrev μ-loop : tie.MeasureT-loop
-μ-loop line first last q₀ m₀ i₀ q m i = i - first
+μ-loop line first last q₀ m₀ count₀ i₀ q m count i = i - first
 
 -- q is as long as at entry
 size : (c : tie.At-loop Inv-loop μ-loop) → length (c .loop .q) ≡ length (c .before .before .before .before .before .args .q .now)
@@ -37,7 +38,7 @@ slice-write-q : tie.Need-slice-write-q Inv-loop μ-loop
 slice-write-q c = omega arith
 
 loop-holds : tie.Need-loop-holds Inv-loop μ-loop
-loop-holds c = (omega arith, behind-first _ _ (c .before .before .before .before .args .last) _ (c .wide .ensures .0) (c .wide .ensures .1))
+loop-holds c = (omega arith, behind-first _ _ (c .before .before .before .before .args .last) _ (c .wide .ensures .0) (c .wide .ensures .1), omega arith)
 
 sub-i : tie.Need-sub-i Inv-loop μ-loop
 sub-i c = omega arith
@@ -53,6 +54,9 @@ wide-requires-2 c κs = search needs
 
 lesser-u32-requires : tie.Need-lesser-u32-requires Inv-loop μ-loop
 lesser-u32-requires c κs = search needs
+
+add-count : tie.Need-add-count Inv-loop μ-loop
+add-count c = omega arith
 
 cast-q-2 : tie.Need-cast-q-2 Inv-loop μ-loop
 cast-q-2 c = omega arith
@@ -71,10 +75,8 @@ loop-again c =
     let l = c .before .before .before .before in (
       omega arith,
       behind-more _ _ _ _ (l .loop .i) (l .loop .m) _ _ (l .loop .inv .1) (omega arith) (c .before .wide2 .ensures .0) (c .lesser-u32 .ensures) (omega (arith, size l)) (simp length-set),
+      omega arith,
     )
-
-sub-result : tie.Need-sub-result Inv-loop μ-loop
-sub-result c = omega arith
 
 same-length : tie.Need-same-length Inv-loop μ-loop
 same-length c = size (c .before)
@@ -103,11 +105,11 @@ behind-spec =
     shared-slice-read-wide-2
     wide-requires-2
     lesser-u32-requires
+    add-count
     cast-q-2
     mul-q-2
     slice-write-q-2
     loop-less
     loop-again
-    sub-result
     same-length
     returns)

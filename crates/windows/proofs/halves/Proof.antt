@@ -5,7 +5,7 @@ use Prim.Native.Nat.{_+_, _-_, _≤_}
 use native.Mathlib.Omega.{arith}
 use borrow.Author.Needs.{needs}
 use lib.ListN.{length}
-use Rattle.windows.proofs.Counts.{inner, inner-le-two}
+use Rattle.rules.proofs.Count.{inner, inner-le-two}
 use Rattle.windows.proofs.Lines.{HalvesTo, halves-none, halves-more, count-more, count-done}
 use Rattle.windows.proofs.halves.Statement.{statement}
 use Rattle.windows.proofs.halves.Tie as tie

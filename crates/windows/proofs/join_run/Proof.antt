@@ -1,4 +1,4 @@
--- `windows::join_run` meets its contract. The invariant: the first i windows are written. Assumes nothing.
+-- `windows::join_run` meets its contract. The invariant: the first i windows are written, with i comparisons. Assumes nothing.
 use mathlib.Core.Path.{_≡_, refl}
 use Prim.Native.Nat.{_+_, _-_, _≤_, min}
 use native.Mathlib.Nat.{add-zero}
@@ -12,14 +12,14 @@ use Rattle.windows.proofs.join_run.Statement.{statement}
 use Rattle.windows.proofs.join_run.Tie as tie
 
 abbrev Inv-loop : tie.InvT-loop
-Inv-loop line₀ s a m p q i₀ line i =
-    (i ≤ m) × (length line ≡ length line₀) × Written (λ j. min (entry q (j - s)) (entry p (j + s))) line₀ line (a + s) (a + s + i)
+Inv-loop line₀ s a m p q count₀ i₀ line count i =
+    (i ≤ m) × (length line ≡ length line₀) × Written (λ j. min (entry q (j - s)) (entry p (j + s))) line₀ line (a + s) (a + s + i) × (count ≡ i)
 
 abbrev μ-loop : tie.MeasureT-loop
-μ-loop line₀ s a m p q i₀ line i = m - i
+μ-loop line₀ s a m p q count₀ i₀ line count i = m - i
 
 loop-holds : tie.Need-loop-holds Inv-loop μ-loop
-loop-holds c = (omega arith, refl, rw add-zero (written-none _ _ _))
+loop-holds c = (omega arith, refl, rw add-zero (written-none _ _ _), refl)
 
 add-lesser-u16 : tie.Need-add-lesser-u16 Inv-loop μ-loop
 add-lesser-u16 c = omega arith
@@ -60,6 +60,9 @@ mul-line c = omega arith
 slice-write-line : tie.Need-slice-write-line Inv-loop μ-loop
 slice-write-line c = omega arith
 
+add-count : tie.Need-add-count Inv-loop μ-loop
+add-count c = omega arith
+
 add-i : tie.Need-add-i Inv-loop μ-loop
 add-i c = omega arith
 
@@ -76,13 +79,14 @@ loop-again c =
       omega arith,
       simp length-set (l .loop .inv .1),
       rw z (written-more _ _ _ _ (a .a + a .s + i) _ (l .loop .inv .2) (omega arith) (omega arith) (joined (a .p .now) (a .q .now) (a .s) (a .a) i _ (c .lesser-u16 .ensures))),
+      omega arith,
     )
 
 same-length : tie.Need-same-length Inv-loop μ-loop
 same-length c = c .before .loop .inv .1
 
 returns : tie.Need-returns Inv-loop μ-loop
-returns c = let z : c .before .loop .i ≡ c .before .before .before .before .before .args .m = omega arith in rw z at (c .before .loop .inv .2)
+returns c = let z : c .before .loop .i ≡ c .before .before .before .before .before .args .m = omega arith in (omega arith, rw z at (c .before .loop .inv .2))
 
 pub join-run-spec : {M : Type 1} → statement M
 join-run-spec =
@@ -104,6 +108,7 @@ join-run-spec =
     add-line-2
     mul-line
     slice-write-line
+    add-count
     add-i
     loop-less
     loop-again

@@ -16,9 +16,9 @@ abbrev μ-loop : tie.MeasureT-loop
 μ-loop line₀ n s p q from end c count₀ i₀ line count i = end - i
 
 -- a turn
-turned : (c : tie.After-crosses Inv-loop μ-loop) → let l = c .before .before .before .before .before .before .before in let s = l .before .before .before .before .before in
-    Met (s .args .line .now) (set (l .loop .line) (l .loop .i) (c .before .pick .result)) (s .args .p .now) (s .args .q .now) (s .args .n) (s .args .s) (s .args .from) (l .loop .i + 1)
-    (l .loop .count + c .crosses .result)
+turned : (c : tie.After-struct-known Inv-loop μ-loop) → let l = c .before .before .before .before .before .before .before in let s = l .before .before .before .before .before in
+    Met (s .args .line .now) (set (l .loop .line) (l .loop .i) (c .before .pick .result .value)) (s .args .p .now) (s .args .q .now) (s .args .n) (s .args .s) (s .args .from) (l .loop .i + 1)
+    (l .loop .count + c .before .pick .result .comparisons)
 turned c =
     let h = c .before .before .before in
     let e = h .before .before in
@@ -31,7 +31,6 @@ turned c =
     (h .high .ensures)
     (l .before .last-block .ensures)
     (c .before .pick .ensures)
-    (c .crosses .ensures)
 
 mul-last-block : tie.Need-mul-last-block Inv-loop μ-loop
 mul-last-block c = omega arith
@@ -71,9 +70,6 @@ mul-line c = omega arith
 
 slice-write-line : tie.Need-slice-write-line Inv-loop μ-loop
 slice-write-line c = omega arith
-
-crosses-requires : tie.Need-crosses-requires Inv-loop μ-loop
-crosses-requires c κs = search needs
 
 add-count : tie.Need-add-count Inv-loop μ-loop
 add-count c =
@@ -117,7 +113,6 @@ meet-cut-spec =
     pick-requires
     mul-line
     slice-write-line
-    crosses-requires
     add-count
     add-i
     loop-less

@@ -67,7 +67,10 @@ join-run-requires c κs =
     (omega arith, simp length-set (omega (arith, l .loop .inv .size)), omega arith, omega arith)
 
 add-count : tie.Need-add-count Inv-loop μ-loop
-add-count c = let l = c .before .before .before .before .before .before .before in omega (arith, few l)
+add-count c =
+    let j = c .before .before in
+    let l = j .before .before .before .before .before in
+    omega (arith, few l, j .join-run .ensures .0)
 
 mul-a : tie.Need-mul-a Inv-loop μ-loop
 mul-a c = omega arith
@@ -87,7 +90,7 @@ loop-again c =
     let o = j .before .before in
     let l = o .before .before .before in
     let s = l .before .before .before .before in
-    whole-more _ _ _ _ _ _ _ (l .loop .a) (l .loop .count) _ (l .loop .inv) (o .before .before .loop-test .taken) (omega (arith, l .loop .inv .size)) (o .lesser-usize .ensures) (j .join-run .kept .0 ∙ simp length-set) (j .join-run .ensures)
+    whole-more _ _ _ _ _ _ _ (l .loop .a) (l .loop .count) _ _ (l .loop .inv) (o .before .before .loop-test .taken) (omega (arith, l .loop .inv .size)) (o .lesser-usize .ensures) (j .join-run .kept .0 ∙ simp length-set) (omega (arith, j .join-run .ensures .0)) (j .join-run .ensures .1)
 
 same-length : tie.Need-same-length Inv-loop μ-loop
 same-length c = c .before .loop .inv .size

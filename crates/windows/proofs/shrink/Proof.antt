@@ -4,9 +4,9 @@ use Prim.Native.Nat.{_+_}
 use native.Mathlib.Omega.{arith}
 use borrow.Author.Needs.{needs}
 use Rattle.windows.specs.Line.{entry}
-use Rattle.windows.specs.Count.{comparisons, samples}
-use Rattle.windows.proofs.Counts.{samples-at-most}
-use Rattle.windows.proofs.Windows.{row-mins, row-count, zero-mins, zero-count}
+use Rattle.rules.specs.Count.{comparisons, samples}
+use Rattle.rules.proofs.Count.{samples-at-most, zero-count}
+use Rattle.windows.proofs.Windows.{row-mins, row-count, zero-mins}
 use Rattle.windows.proofs.shrink.Statement.{statement}
 use Rattle.windows.proofs.shrink.Tie as tie
 

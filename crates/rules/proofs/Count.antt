@@ -1,20 +1,16 @@
 -- Laws of the count of comparisons: it goes by the line's length, is at most 3 a sample, and grows as the loops go. Assumes nothing.
-use mathlib.Core.Path.{_≡_, refl, ap}
+use mathlib.Core.Path.{_≡_, refl, sym, ap, _∙_}
 use mathlib.Core.Bool.{Bool, true, false, cond}
 use mathlib.Core.List.{List, [], _∷_}
-use mathlib.Core.Logic.{⊎-elim, _↔_}
 use Prim.Native.Nat.{ℕ, zero, suc, _+_, _-_, _*_, _/_, _≤_, _<_, min}
-use native.Mathlib.Nat.{add-zero, div-lt-iff-lt-mul}
+use native.Mathlib.Nat.{add-zero, mul-add, add-mul, one-mul, zero-mul, mul-zero}
 use native.Mathlib.Omega.{arith}
 use borrow.Author.Tests.{lt-ltb, le-ltb}
 use lib.Dec.{ltb}
-use lib.ListN.{length, drop, length-take, length-drop}
+use lib.ListN.{length, take, drop, length-take, length-drop}
 use Rattle.rules.specs.Window.{total}
+use Rattle.rules.specs.Count.{blocksIn, inBlocks, lo, hi, inTwo, crossing, tally, comparisons, samples}
 use Rattle.rules.proofs.Local.{from-length}
-use Rattle.windows.specs.Span.{lo, hi}
-use Rattle.windows.specs.Blocks.{start}
-use Rattle.windows.specs.Count.{blocksIn, inBlocks, tally, crossing, comparisons, samples}
-use Rattle.windows.proofs.Cuts.{lt-or-ge}
 
 -- ---- in blocks, by the line's length
 innerIn : ℕ → ℕ → ℕ → ℕ
@@ -25,15 +21,17 @@ innerIn (suc m) k (suc n) = 2 * (min k (suc n) - 1) + innerIn m k (suc n - k)
 pub inner : ℕ → ℕ → ℕ
 inner k n = innerIn n k n
 
-inner-list : {A : Type 0} (m k : ℕ) (xs : List A) → total (λ b. 2 * (length b - 1)) (blocksIn m k xs) ≡ innerIn m k (length xs)
+inner-list : {A : Type 0} (g : List A → ℕ) → ((b : List A) → g b ≡ 2 * (length b - 1)) → (m k : ℕ) (xs : List A)
+    → total g (blocksIn m k xs) ≡ innerIn m k (length xs)
 unfolding blocksIn innerIn
-inner-list zero k xs = refl
-inner-list (suc m) k [] = refl
-inner-list (suc m) k (x ∷ xs) = rw (inner-list m k (drop k (x ∷ xs)), length-take k (x ∷ xs), length-drop k (x ∷ xs))
+inner-list g h zero k xs = refl
+inner-list g h (suc m) k [] = refl
+inner-list g h (suc m) k (x ∷ xs) =
+    rw (inner-list g h m k (drop k (x ∷ xs)), h (take k (x ∷ xs)), length-take k (x ∷ xs), length-drop k (x ∷ xs))
 
 pub inner-is : {A : Type 0} (k : ℕ) (xs : List A) → inBlocks k xs ≡ inner k (length xs)
 unfolding inBlocks inner
-inner-is k xs = inner-list (length xs) k xs
+inner-is k xs = inner-list _ (λ b. omega arith) (length xs) k xs
 
 pub samples-length : (n : ℕ) → length (samples n) ≡ n
 unfolding samples
@@ -57,7 +55,7 @@ cond-le false n = omega arith
 
 crossing-le : (s n i : ℕ) → crossing s n i ≤ 1
 unfolding crossing
-crossing-le s n i = cond-le (ltb (lo s i / (2 * s + 1)) (hi s n i / (2 * s + 1))) 1
+crossing-le s n i = cond-le (inTwo s n i) 1
 
 tally-le : (f : ℕ → ℕ) (n : ℕ) → ((i : ℕ) → f i ≤ 1) → tally f n ≤ n
 unfolding tally
@@ -136,17 +134,37 @@ tally-ones f a (suc d) h =
     let z : a + suc d ≡ suc (a + d) = omega arith in
     rw z (omega (arith, tally-suc f (a + d), tally-ones f a d (λ i x y. h i x (omega arith)), h (a + d) (omega arith) (omega arith)))
 
--- a window reaches into two blocks exactly where it begins before the block of its last sample
-pub crossing-is : (s n i : ℕ) → crossing s n i ≡ cond (ltb (lo s i) (start (2 * s + 1) (hi s n i))) 1 0
-unfolding crossing start
-crossing-is s n i =
-    let both : (lo s i / (2 * s + 1) < hi s n i / (2 * s + 1)) ↔ (lo s i < hi s n i / (2 * s + 1) * (2 * s + 1)) = div-lt-iff-lt-mul (omega arith) in
-    ⊎-elim
-    (λ (h : lo s i < hi s n i / (2 * s + 1) * (2 * s + 1)). rw (lt-ltb _ _ h, lt-ltb _ _ (both .1 h)))
-    (λ (h : hi s n i / (2 * s + 1) * (2 * s + 1) ≤ lo s i).
-    rw (
-      le-ltb _ _ h,
-      le-ltb (lo s i / (2 * s + 1)) (hi s n i / (2 * s + 1))
-          (⊎-elim (λ (x : lo s i / (2 * s + 1) < hi s n i / (2 * s + 1)). absurd (omega (arith, both .0 x))) (λ x. x) (lt-or-ge (lo s i / (2 * s + 1)) (hi s n i / (2 * s + 1)))),
-    ))
-    (lt-or-ge (lo s i) (hi s n i / (2 * s + 1) * (2 * s + 1)))
+-- a sum that ends after h
+pub tally-while : (f : ℕ → ℕ) (h s : ℕ) → tally (λ v. cond (ltb v h) (f v) 0) (h + s) ≡ tally f h
+tally-while f h s =
+    let F : ℕ → ℕ = λ v. cond (ltb v h) (f v) 0 in
+    let none : tally (λ i. F (h + i)) s ≡ 0 = tally-zeros (λ i. F (h + i)) s (λ i u. rw (le-ltb (h + i) h (omega arith))) in
+    let all : tally F h ≡ tally f h = tally-cong F f h (λ i u. rw (lt-ltb i h u)) in
+    omega (arith, tally-split F h s)
+
+-- n equal ones
+pub tally-same : (c n : ℕ) → tally (λ i. c) n ≡ n * c
+tally-same c zero = tally-none (λ i. c) ∙ sym (zero-mul c)
+tally-same c (suc n) =
+    let z : suc n ≡ n + 1 = omega arith in
+    tally-suc (λ i. c) n ∙ rw (tally-same c n, z) (omega (arith, add-mul n 1 c, one-mul c))
+
+pub tally-times : (w : ℕ) (f : ℕ → ℕ) (n : ℕ) → tally (λ i. w * f i) n ≡ w * tally f n
+tally-times w f zero = tally-none (λ i. w * f i) ∙ rw (tally-none f) (sym (mul-zero w))
+tally-times w f (suc n) = tally-suc (λ i. w * f i) n ∙ rw (tally-times w f n, tally-suc f n) (sym (mul-add w (tally f n) (f n)))
+
+-- ---- a radius of 0 takes none
+
+zero-inner : (n : ℕ) → inner 1 n ≡ 0
+zero-inner zero = inner-none 1
+zero-inner (suc n) =
+    let z : suc n - 1 ≡ n = omega arith in
+    omega (arith, rw z at (inner-step 1 (suc n) (omega arith) (omega arith)), zero-inner n)
+
+zero-crossing : (n i : ℕ) → crossing 0 n i ≡ 0
+unfolding crossing
+zero-crossing n i = rw (le-ltb (lo 0 i / (2 * 0 + 1)) (hi 0 n i / (2 * 0 + 1)) (omega arith))
+
+pub zero-count : (n : ℕ) → 0 ≡ comparisons 0 (samples n)
+unfolding comparisons
+zero-count n = rw (inner-is 1 (samples n), samples-length n, zero-inner n, tally-zeros (crossing 0 n) n (λ i h. zero-crossing n i))
