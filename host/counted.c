@@ -16,7 +16,14 @@ static int64_t work[HAZE_WORK(SIDE, SIDE)];
 
 static uint64_t calls, made;
 
-/* 0 where a call that was accepted says what it made and, of a whole frame, what was to be expected; 14 of Light says nothing. */
+/* How many of `end` columns are at most q from the n of them that begin at `from`; the same of rows. */
+static uint64_t near(uint64_t from, uint64_t n, uint64_t q, uint64_t end)
+{
+    uint64_t first = from > q ? from - q : 0, behind = from + n + q < end ? from + n + q : end;
+    return behind - first;
+}
+
+/* 0 where a call was accepted and says what it made, and what was to be expected. */
 static int wrong(const char *call, int status, uint64_t said, uint64_t expected, uint64_t w, uint64_t h, uint64_t s)
 {
     calls++;
@@ -31,7 +38,7 @@ static int round_of(void)
 {
     struct haze_settings k = HAZE_SETTINGS_DEFAULT;
     struct haze_lights a = {{200, 210, 220}};
-    uint64_t w = with_ends(1, SIDE), h = with_ends(1, SIDE), n, m, said;
+    uint64_t w = with_ends(1, SIDE), h = with_ends(1, SIDE), n, m, q, said;
     struct haze_rect c = {draw() % w, draw() % h, 0, 0};
     int status;
     k.s = with_ends(0, 30);
@@ -52,7 +59,8 @@ static int round_of(void)
     if (wrong("clear", status, said, haze_comparisons(w, h, k.s), w, h, k.s)) return 1;
     haze_compared = said = 0;
     status = haze_replace(w, h, &k, &a, &c, pixels, m, mask, n, frame, 3 * n, map, n, picture, 3 * n, work, HAZE_WORK(w, h), &said);
-    return wrong("replace", status, said, said, w, h, k.s);
+    q = 2 * k.s + 4 * k.r;
+    return wrong("replace", status, said, haze_comparisons(near(c.column, c.width, q, w), near(c.row, c.height, q, h), k.s), w, h, k.s);
 }
 
 int main(void)

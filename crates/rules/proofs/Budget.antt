@@ -1,13 +1,14 @@
 -- What the count of comparisons depends on, so that a caller can plan by the size alone. A call that is done says a number that the size and s determine
 -- (`took-count`): two calls with the same size and s say the same, whatever their frames, masks, lights, other settings and buffers (`took-same`), and the
--- budget is that number (`took-budget`). It is at most 6 a pixel (`took-most`, `replaced-most`), and 0 where s is 0 (`took-none`). Assumes nothing.
+-- budget is that number (`took-budget`). It is at most 6 a pixel (`took-most`, `replaced-most`), and 0 where s is 0 (`took-none`). What is refused has the budget 0. Assumes nothing.
 use mathlib.Core.Path.{_≡_, refl, sym, ap, _∙_}
-use mathlib.Core.Bool.{false}
+use mathlib.Core.Bool.{Bool, true, false, cond, _||_}
 use mathlib.Core.List.{List}
-use Prim.Native.Nat.{ℕ, zero, suc, _*_, _≤_}
+use Prim.Native.Nat.{ℕ, zero, suc, _*_, _≤_, _<_}
 use native.Mathlib.Nat.{mul-le-mul, mul-le-mul-left, mul-comm}
 use native.Mathlib.Omega.{arith}
-use borrow.Author.Tests.{le-ltb}
+use borrow.Author.Tests.{lt-ltb, le-ltb}
+use lib.Dec.{ltb}
 use lib.ListN.{length}
 use lib.IntN.{ℤ}
 use Rattle.rules.specs.Shape.{Shape, described}
@@ -21,7 +22,7 @@ use Rattle.rules.specs.declared.Found.{Found}
 use Rattle.rules.specs.declared.Found.the-variants as found
 use Rattle.rules.specs.Setup.{Setup, shape}
 use Rattle.rules.specs.Good.{GoodSize, GoodRect}
-use Rattle.rules.specs.Refusals.{badSize, badSeen}
+use Rattle.rules.specs.Refusals.{badSize, badSettings, badSeen}
 use Rattle.rules.specs.Count.{comparisons, samples, frameComparisons, partShape}
 use Rattle.rules.specs.Promise.{or, outcomeOr, outcomeSaid, foundSaid, Lent, Lights, Clears, Replaces, Budgets}
 use Rattle.rules.proofs.Good.{size-good, settings-good, rect-good}
@@ -152,3 +153,18 @@ took-none z n t = took-count z 0 n t .count ∙ frame-none (described z)
 pub replaced-most : (p : Setup) (c : Rect) (new : List ℕ) (l m : Lent) (n : ℕ) → Replaces p c new l (outcome.Done n) m → n ≤ 6 * (p .size .w * p .size .h)
 replaced-most p c new l m n q =
     omega (arith, took-most (part p c) (p .settings .s) n (replaced q), part-area p c)
+
+-- ---- what is refused: a size that every call refuses, and a radius that all settings are refused for, have the budget 0
+
+either-none : (a b : Bool) (n : ℕ) → b ≡ true → cond (a || b) 0 n ≡ 0
+either-none true b n e = refl
+either-none false b n e = rw e
+
+pub budget-no-size : (z : Size) (s r : ℕ) → Budgets z s r → badSize z ≡ true → r ≡ 0
+budget-no-size z s r b e = rw e at (b .answer)
+
+pub budget-no-radius : (z : Size) (k : Settings) (r : ℕ) → Budgets z (k .s) r → 30 < k .s → (r ≡ 0) × (badSettings k ≡ true)
+unfolding badSettings
+budget-no-radius z k r b h =
+    let e : ltb 30 (k .s) ≡ true = lt-ltb 30 (k .s) h in
+    (b .answer ∙ either-none (badSize z) (ltb 30 (k .s)) _ e, rw e)
