@@ -1,4 +1,6 @@
 // Haze added to a clean frame, of a call that is not refused.
+#![tactic(auto)]
+
 ghost use Rattle.std.specs.Prelude.{◌≡◌, ℕ, ◌+◌, ◌*◌, ◌≤◌, length, get_or};
 ghost use Rattle.rules.specs.Shape.{described};
 ghost use Rattle.rules.specs.Buffers.{hazed as hazed_frame};

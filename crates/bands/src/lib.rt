@@ -1,4 +1,6 @@
 // The band figure: mean and least transmission of a band of rows as two doubles.
+#![tactic(auto)]
+
 ghost use Rattle.std.specs.Prelude.{◌≡◌, ◌*◌, ◌^◌, ◌≤◌, ◌<◌, length};
 ghost use Rattle.rules.specs.Shape.{described};
 ghost use Rattle.rules.specs.Good.{GoodSize};

@@ -1,5 +1,7 @@
 // What C hands over and gets back, as the values of document 01: sizes, settings, lights and rectangles from numbers and arrays; an answer as the number that
 // is returned, with the value that it carries in its places.
+#![tactic(auto)]
+
 ghost use Rattle.std.specs.Prelude.{◌≡◌};
 ghost use Rattle.rules.specs.Promise.{said, outcome_said, found_said, band_said};
 ghost use Rattle.boundary.specs.Handed.{size, settings_in, rgb_in, rect_in, figure_in, finding_in, count_after, finding_after, figure_after};

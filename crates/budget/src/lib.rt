@@ -1,4 +1,6 @@
 // How many comparisons the minimum takes, worked out from a size and a radius alone: what a caller can plan a frame's time by before there is a frame.
+#![tactic(auto)]
+
 ghost use Rattle.rules.specs.Count.{comparisons, samples};
 ghost use Rattle.rules.specs.Promise.{Budgets};
 ghost use Rattle.std.specs.Prelude.{◌≡◌, ◌≤◌, ◌<◌};

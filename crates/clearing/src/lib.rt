@@ -1,5 +1,7 @@
 // Clear and Replace, of calls that are not refused. Both bring a rectangle of map and picture up to date by way of the lines of a part of the frame, and these by way of a box: Clear
 // the whole frame; Replace what is within s + 2r of the new pixels, by the lines within s + 3r and a box that reaches 2s + 4r.
+#![tactic(auto)]
+
 ghost use Rattle.std.specs.Prelude.{◌≡◌, ◌+◌, ◌*◌, ◌≤◌, length, get_or};
 ghost use Rattle.rules.specs.Shape.{described, room};
 ghost use Rattle.rules.specs.Transmission.{fit as lined};

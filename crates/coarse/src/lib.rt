@@ -1,5 +1,7 @@
 // The first pass over a box: from the frame's bytes through the least ratios and their minima to the samples, row by row. A hidden pixel has the ratio 10,000,
 // which lowers no minimum, and words of 0, which add nothing to a sum.
+#![tactic(auto)]
+
 ghost use Rattle.std.specs.Prelude.{◌≡◌, cond, not, eqb, ℕ, ◌+◌, ◌-◌, ◌*◌, ◌≤◌, ◌<◌, List, length, get_or, ℤ, pos};
 ghost use Rattle.rules.specs.Good.{GoodLight};
 ghost use Rattle.rules.specs.Window.{Plane, Shown};

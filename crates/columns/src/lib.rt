@@ -1,4 +1,6 @@
 // The least over windows of 16-bit samples down the columns of rows that come one at a time, by blocks, with the count of comparisons.
+#![tactic(auto)]
+
 ghost use Rattle.std.specs.Prelude.{◌≡◌, ℕ, ◌+◌, ◌-◌, ◌*◌, ◌≤◌, ◌<◌, min, length};
 ghost use Rattle.rules.specs.Window.{Plane};
 ghost use Rattle.windows.specs.Span.{windowed};

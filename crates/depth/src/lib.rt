@@ -1,4 +1,6 @@
 // Relative depth from transmission: how many steps of one hundredth lead from 1 down to it.
+#![tactic(auto)]
+
 mod thresholds;
 
 ghost use Rattle.std.specs.Prelude.{◌≡◌, map as each, ℕ, ◌≤◌, length, get_or};

@@ -1,4 +1,6 @@
 // Lines, fields and numbers of a text: read from lent bytes, written into them.
+#![tactic(auto)]
+
 ghost use Rattle.std.specs.Prelude.{◌≡◌, ◌∷◌, ◌≤◌, ◌+◌, min, length};
 ghost use Rattle.fields.specs.Bytes.{class_of, line_of};
 ghost use Rattle.fields.specs.Fields.{Ends, same as same_list};
@@ -7,7 +9,7 @@ ghost use Rattle.fields.specs.Written.{Wrote, columns, row};
 ghost use Rattle.fields.specs.Decimal.{digits_of, number_of, decimal};
 
 // Every byte of a text is one of these.
-#[derive(Drop)]
+#[derive(Clone, Copy)]
 pub enum Class {
     Digit,
     Lower,
@@ -29,7 +31,7 @@ pub fn class_of(b: u8) -> Class
 }
 
 // A line: where it ends and how many fields it has, or that it breaks the layout.
-#[derive(Drop)]
+#[derive(Clone, Copy)]
 pub enum Line {
     Ends(usize, usize),
     Broken,
@@ -127,7 +129,7 @@ pub fn same(a: &[u8], b: &[u8]) -> bool
 }
 
 // What a field's text says as a number.
-#[derive(Drop)]
+#[derive(Clone, Copy)]
 pub enum Number {
     Is(usize),
     Bad,

@@ -1,4 +1,6 @@
 // The guided filter over a box: from samples to lines. A hidden pixel has no line: 0 stands for its slope and for its offset.
+#![tactic(auto)]
+
 ghost use Rattle.std.specs.Prelude.{◌≡◌, ◌+◌, ◌*◌, ◌≤◌, ◌<◌, length, set, nat_abs};
 ghost use Rattle.rules.specs.Window.{Plane, Shown};
 ghost use Rattle.rules.specs.Transmission.{Sample};

@@ -1,4 +1,6 @@
 // The public calls. None asks anything of its caller: each promises, for every input, what it answers and what stands in the lent memory afterwards.
+#![tactic(auto)]
+
 ghost use Rattle.std.specs.Prelude.{ℕ};
 ghost use Rattle.rules.specs.Setup.{handed};
 ghost use Rattle.rules.specs.Promise.{lent_of, Lights, Clears, Replaces, Hazes, Bands, Budgets};

@@ -1,5 +1,7 @@
 // The library for C, frames: exported functions, each one public call. Settings, a light and a rectangle are arrays, which the header declares as structs.
 // Each returns 0 or the refusal number, and on a refusal nothing that it was lent changes, result places included.
+#![tactic(auto)]
+
 ghost use Rattle.rules.specs.Promise.{lent_of, Budgets};
 ghost use Rattle.boundary.specs.Handed.{size, settings_in, rgb_in, rect_in, setup_in, figure_in, finding_in};
 ghost use Rattle.haze_c.specs.Calls.{light_places, frame_places, LightReturns, ClearReturns, ReplaceReturns, AddReturns, BandReturns};

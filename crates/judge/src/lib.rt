@@ -1,4 +1,6 @@
 // The tests behind the refusal numbers. Products and sums are formed only of numbers that have passed a test that keeps them small.
+#![tactic(auto)]
+
 ghost use Rattle.std.specs.Prelude.{◌≡◌, ◌||◌, [], ◌∷◌, ◌+◌, ltb};
 ghost use Rattle.rules.specs.Shape.{described};
 ghost use Rattle.rules.specs.Good.{GoodSize};

@@ -1,5 +1,7 @@
 // The ambient light of a frame: row by row the dark values by the window minimum and a count for each of 257 levels, then the cutoff and the
 // brightest candidate. A pixel's level is one more than its dark value, and 0 where it is hidden: so hidden pixels come after all others.
+#![tactic(auto)]
+
 ghost use Rattle.std.specs.Prelude.{◌≡◌, cond, ◌&&◌, ◌||◌, List, ℕ, ◌+◌, ◌-◌, ◌*◌, ◌/◌, ◌≤◌, ◌<◌, max, ltb, eqb, length, get_or, ℤ, pos};
 ghost use Rattle.rules.specs.Shape.{described};
 ghost use Rattle.rules.specs.Light.{darkest, lifted, guide};
@@ -13,21 +15,21 @@ ghost use Rattle.light.specs.Steps.{value, least_by, level_by, Levels, Starts, B
 use rules::{Finding, Rgb, Settings, Size};
 
 // The cutoff of the levels, and how many pixels at it are let in.
-#[derive(Drop)]
+#[derive(Clone, Copy)]
 struct Cut {
     value: usize,
     ties: usize,
 }
 
 // The candidate that leads: its position, and one more than its guide, or 0 before the first.
-#[derive(Drop)]
+#[derive(Clone, Copy)]
 struct Leader {
     place: usize,
     top: u64,
 }
 
 // A walk over the positions: the candidate that leads, and how many have been seen at the cutoff.
-#[derive(Drop)]
+#[derive(Clone, Copy)]
 struct Walk {
     leader: Leader,
     seen: usize,

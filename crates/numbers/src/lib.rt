@@ -1,5 +1,7 @@
 // The lesser of two numbers, a difference that stops at 0 and a sum that stops at an end, for every crate that needs them. There are no generics:
 // `lesser` stands once for each width in use.
+#![tactic(auto)]
+
 ghost use Rattle.std.specs.Prelude.{◌≡◌, ◌+◌, ◌-◌, ◌≤◌, min};
 
 // a - b, and 0 where b is larger.

@@ -2,6 +2,8 @@
 // for many pixels (a light, the size of a window, a transmission): one division makes its scale, and each quotient is then a product. The library's
 // other divisions: a share of the pixels once a call (`light`), two of doubles (`bands`), halves in a search (`depth`), tenths of a number that is
 // written (`fields`).
+#![tactic(auto)]
+
 ghost use Rattle.std.specs.Prelude.{◌≡◌, true, false, cond, ℕ, ◌+◌, ◌-◌, ◌*◌, ◌/◌, ◌^◌, ◌≤◌, ◌<◌, min, max, length, pos, negsuc, nat_abs, ◌+ℤ◌, ◌-ℤ◌, ◌*ℤ◌};
 ghost use Rattle.std.specs.Int.Signed.{shr_z, lt_z, mag};
 ghost use Rattle.rules.specs.Good.{GoodLight};
@@ -47,7 +49,7 @@ pub fn guide_of(i: Rgb) -> u64
 // ---- from light to transmission
 
 // What bytes under the three channels of a light are multiplied by for their ratios, in 65,536ths.
-#[derive(Drop)]
+#[derive(Clone, Copy)]
 pub struct Scales {
     pub r: u32,
     pub g: u32,
@@ -63,7 +65,7 @@ pub fn light_scale(a: u8) -> u32
 }
 
 // A byte over the light of its channel, and the light's scale.
-#[derive(Drop)]
+#[derive(Clone, Copy)]
 struct Fraction {
     i: u32,
     a: u32,

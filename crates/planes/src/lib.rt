@@ -1,9 +1,11 @@
 // A box in a plane, and the wiping of the lent work area. What stands in the area between the passes is said in `specs/Stage`.
+#![tactic(auto)]
+
 ghost use Rattle.std.specs.Prelude.{◌≡◌, ◌+◌, ◌*◌, ◌≤◌, ◌<◌, ◌++◌, length, drop, replicate, pos};
 ghost use Rattle.planes.specs.View.{InPlane, row_start};
 
 // A box in a plane: the plane's columns and rows, the box's first row and column, and its columns and rows.
-#[derive(Drop)]
+#[derive(Clone, Copy)]
 pub struct View {
     pub w: usize,
     pub h: usize,

@@ -1,18 +1,20 @@
 // The header of a binary Netpbm file, the same for every kind: PPM, PGM and others.
+#![tactic(auto)]
+
 ghost use Rattle.std.specs.Prelude.{◌≡◌, false, ◌+◌, ◌≤◌, length, drop};
 ghost use Rattle.pnm.specs.Header.{ends, white, gap_in, run, header_of, token_at, magic, closed};
 
 use fields::Number;
 
 // A header: width, height, maximum, and where the pixels begin.
-#[derive(Drop)]
+#[derive(Clone, Copy)]
 pub enum Head {
     Is(usize, usize, usize, usize),
     Bad,
 }
 
 // A number behind a gap: its value, and where it ends.
-#[derive(Drop)]
+#[derive(Clone, Copy)]
 enum Token {
     Is(usize, usize),
     Bad,

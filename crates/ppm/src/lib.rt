@@ -1,4 +1,6 @@
 // PPM files: a picture read into a frame, and written from one. No public call asks anything of its caller.
+#![tactic(auto)]
+
 ghost use Rattle.std.specs.Prelude.{◌≡◌, ◌≤◌, ◌<◌, length};
 ghost use Rattle.rules.specs.Refusals.{first};
 ghost use Rattle.fields.specs.Decimal.{decimal};
@@ -13,7 +15,7 @@ use rules::{Answer, Size};
 // ---- read
 
 // What the reader answers.
-#[derive(Drop)]
+#[derive(Clone, Copy)]
 pub enum Taken {
     Frame(Size),
     Refused(u8),

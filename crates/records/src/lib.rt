@@ -1,4 +1,6 @@
 // The records of the program's text: a line judged as one of them, the reader's step from line to line, and a whole frame.
+#![tactic(auto)]
+
 ghost use Rattle.std.specs.Prelude.{◌≡◌, ◌+◌, ◌*◌, ◌≤◌, ◌<◌, length, drop};
 ghost use Rattle.std.proofs.lemmas.List.Edits.{sets};
 ghost use Rattle.fields.specs.Every.{every};
@@ -13,7 +15,7 @@ use fields::{Line, Number};
 use rules::{Settings, Size};
 
 // The three records.
-#[derive(Drop)]
+#[derive(Clone, Copy)]
 pub enum Kind {
     Size,
     Set,
@@ -166,7 +168,7 @@ fn fault_of(kind: Kind, line: &[u8], count: usize) -> u8
 // ---- line by line
 
 // Where the next line begins, and its number. With a fault, the line at fault.
-#[derive(Drop)]
+#[derive(Clone, Copy)]
 pub struct Reader {
     pub at: usize,
     pub line: usize,
@@ -236,7 +238,7 @@ fn read_pixels(input: &[u8], s: Reader, n: usize, frame: &mut [u8]) -> Reader
 }
 
 // One frame of a text: its size, its settings, and where the reader stands after its last pixel.
-#[derive(Drop)]
+#[derive(Clone, Copy)]
 pub struct Frame {
     pub z: Size,
     pub k: Settings,

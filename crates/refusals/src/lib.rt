@@ -1,5 +1,7 @@
 // The refusal number of each call, 0 for one that is accepted. No call is asked for anything: the size is judged first, and the tests after it may ask for a
 // good one.
+#![tactic(auto)]
+
 ghost use Rattle.std.specs.Prelude.{◌≡◌, ◌||◌, length};
 ghost use Rattle.rules.specs.Shape.{described};
 ghost use Rattle.rules.specs.Good.{GoodSize};

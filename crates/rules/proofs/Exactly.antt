@@ -40,6 +40,7 @@ given n (c ∷ l) e = go c.1 refl e (given n l)
     go false t f ih = later t (ih f)
 
 pub gives : (n : ℕ) (l : Tests) → Gives n l → first l ≡ n
+gives n [] x' = elim x' [ ]
 gives n (c ∷ l) (here e t) = rw t e
 gives n (c ∷ l) (later t g) = rw t (gives n l g)
 

@@ -48,6 +48,7 @@ step m n b e = go (ltb m n) refl e
     go false h k = absurd (true≢false (sym k))
 
 between : (m : ℕ) (l : Tests) → climbing m l ≡ true → (n : ℕ) → Applies n l → (m < first l) × (first l ≤ n)
+between m [] p n a = elim a [ ]
 between m (c ∷ l) p n a = go c.1 refl a (λ b. between c.0 l (step m c.0 (climbing c.0 l) p).1 n b)
   where
     over : m < c.0

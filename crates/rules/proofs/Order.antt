@@ -29,6 +29,7 @@ rising_less a b [] h r = tt
 rising_less a b (p ∷ l) h r = (let j = r.0 in omega arith, r.1)
 
 pub rising_in : (a p : ℕ) (l : List ℕ) → Rising a l → In p l → a ≤ p
+rising_in a p [] r x'' = elim x'' [ ]
 rising_in a p (o ∷ l) r (here e) = let j = r.0 in omega arith
 rising_in a p (o ∷ l) r (later i) = let j = rising_in (suc o) p l r.1 i in let e = r.0 in omega arith
 
@@ -41,6 +42,7 @@ from_rising a zero = tt
 from_rising a (suc n) = (omega arith, from_rising (suc a) n)
 
 pub in_some : (p : ℕ) (l : List ℕ) → In p l → 0 < length l
+in_some p [] i = elim i [ ]
 in_some p (o ∷ l) i = omega arith
 
 pub from_in : (a n p : ℕ) → a ≤ p → p < a + n → In p (upto a n)
@@ -52,6 +54,7 @@ from_in a (suc n) p l h = go (dec_le p a) (from_in (suc a) n p)
     go (no e) ih = later (ih (omega arith) (omega arith))
 
 pub from_end : (a n p : ℕ) → In p (upto a n) → p < a + n
+from_end a zero p x' = elim x' [ ]
 from_end a (suc n) p (here e) = omega arith
 from_end a (suc n) p (later i) = omega (arith, from_end (suc a) n p i)
 
@@ -75,6 +78,7 @@ module _ (t : ℕ → Bool) where
       go false e ih j = (later (ih j).0, (ih j).1)
 
   pub keep_has : (p : ℕ) (l : List ℕ) → In p l → t p ≡ true → In p (keep t l)
+  keep_has p [] x'' e = elim x'' [ ]
   keep_has p (o ∷ l) (here s) e = let f : t o ≡ true = ap t (sym s) ∙ e in rw f (here s)
   keep_has p (o ∷ l) (later i) e = go (t o) (keep_has p l i e)
     where
@@ -121,6 +125,7 @@ module _ (b : ℕ → ℕ → Bool) (never : (p : ℕ) → b p p ≡ false) (thr
   ahead_le o p l e = count_le (λ q. b q o) (λ q. b q p) l (λ q h. through q o p h e)
 
   pub ahead_lt : (o p : ℕ) (l : List ℕ) → In o l → b o p ≡ true → ahead b l o < ahead b l p
+  ahead_lt o p [] x'' e = elim x'' [ ]
   ahead_lt o p (q ∷ l) (here s) e = rw (← s, never o, e) (omega (arith, ahead_le o p l e))
   ahead_lt o p (q ∷ l) (later i) e = omega (arith, ahead_lt o p l i e, one_le (b q o) (b q p) (λ h. through q o p h e))
 

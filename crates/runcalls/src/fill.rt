@@ -6,7 +6,7 @@ use crate::line::{at_most, past};
 // What the entries of a part hold. With i an entry's place in the part and d its draw, a number below 65,536 from a generator that starts at
 // the seed, the entry is low + d % noise + i / slow + i % fast, where a term with a divisor of 0 is left out; and where `spots` is not 0, about
 // one entry in so many is 255 - d % 64 instead. A byte takes the number's last 8 bits. The work area takes numbers from 4 that it stands for.
-#[derive(Drop)]
+#[derive(Clone, Copy)]
 pub(crate) struct Pattern {
     pub(crate) seed: u64,
     pub(crate) low: u64,

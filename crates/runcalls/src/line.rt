@@ -16,7 +16,7 @@ fn with_digit(v: u64, b: u8) -> u64 {
 }
 
 // How far a line is read: the number that is being read, and how many stand before it.
-#[derive(Drop)]
+#[derive(Clone, Copy)]
 struct Reading {
     value: u64,
     count: usize,

@@ -7,6 +7,8 @@
 //   and how many bytes of the mask are lent.
 // Haze takes the frame as the clean one and hazes the picture; the budget takes W H and s alone. A fill's other numbers are the buffer's, the
 // first entry and how many, and those of `fill::Pattern`; for the mask how many bytes, and those of `mask::Shown`.
+#![tactic(auto)]
+
 ghost use Rattle.io.specs.Counts.{IsPrefixLen};
 
 mod calls;

@@ -5,7 +5,7 @@ use crate::line::at_most;
 // Which pixels a mask shows, in a frame of `width` columns: of the columns from `left` on, `right` left out, every `across`-th, and of the rows
 // from `top` on, `bottom` left out, every `down`-th. Of these a pixel is seen where its draw falls below `keep`, in sixteenths. A seen pixel has
 // the byte `byte`, or where that is 0 one of 1, 2, 128 and 255, by its draw. The draws are those of `fill::Pattern`.
-#[derive(Drop)]
+#[derive(Clone, Copy)]
 pub(crate) struct Shown {
     pub(crate) width: u64,
     pub(crate) left: u64,

@@ -1,4 +1,6 @@
 // The depth of every 16-bit number: a line with the number and its depth wherever that is another than the depth of the number before.
+#![tactic(auto)]
+
 ghost use Rattle.std.specs.Prelude.{◌≡◌};
 ghost use Rattle.depth.specs.Table.{depth_of};
 

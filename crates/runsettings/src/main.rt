@@ -1,5 +1,7 @@
 // Asks for each name of standard input. A call is a field text, a house text and a name; each is followed by one byte 30, which is no part of it.
 // A line for each call: the number of the refusal, a tab, and the part that is returned.
+#![tactic(auto)]
+
 ghost use Rattle.io.specs.Counts.{IsPrefixLen};
 
 fn answer<'a>(field: &'a [u8], house: &'a [u8], name: &[u8]) {

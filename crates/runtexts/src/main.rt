@@ -1,5 +1,7 @@
 // Answers each text of standard input as `clearframe` answers its input. Every text is followed by one byte 30, which is no part of it;
 // every answer is followed by a line that holds `=` alone.
+#![tactic(auto)]
+
 ghost use Rattle.io.specs.Counts.{IsPrefixLen};
 
 fn answer(input: &[u8]) {

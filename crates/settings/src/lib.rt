@@ -1,4 +1,6 @@
 // A field's settings over the house's: the value of a name, as the caller's own part of one of two lent texts.
+#![tactic(auto)]
+
 ghost use Rattle.std.specs.Prelude.{◌≡◌, length};
 ghost use Rattle.fields.specs.Fields.{split};
 ghost use Rattle.settings.specs.Texts.{word, kept, good, first_with};
@@ -68,7 +70,7 @@ fn is_good(text: &[u8]) -> bool
 // ---- where a name's value stands
 
 // The first line with a name, by its number from 0.
-#[derive(Drop)]
+#[derive(Clone, Copy)]
 enum First {
     Line(usize),
     None,
@@ -101,7 +103,7 @@ fn value_of<'a>(text: &'a [u8], k: usize) -> &'a [u8]
 }
 
 // What answers: a line of the field text, a line of the house text, or a refusal.
-#[derive(Drop)]
+#[derive(Clone, Copy)]
 enum Source {
     Field(usize),
     House(usize),

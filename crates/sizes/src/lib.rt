@@ -1,6 +1,8 @@
 // How many seen pixels the windows about a row's pixels have, and their reciprocals, which a table keeps as they are met. The counts slide as the sums do:
 // column by column, and along the row of them. Where the columns stay as they are from one row to the next, all stands already. A window without a seen pixel,
 // which only a hidden pixel can have, counts as one of size 1: its sums are 0, and nothing is divided by 0.
+#![tactic(auto)]
+
 ghost use Rattle.std.specs.Prelude.{◌≡◌, true, ℕ, ◌+◌, ◌-◌, ◌≤◌, ◌<◌, max, length, get_or, pos, nat_abs};
 ghost use Rattle.planes.specs.View.{InPlane, Framed};
 ghost use Rattle.planes.specs.Stage.{box_seen};

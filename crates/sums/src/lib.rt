@@ -1,4 +1,6 @@
 // Sums over squares that slide: the sums of the squares' rows, column by column, kept from one row of the box to the next, and along the row of them.
+#![tactic(auto)]
+
 ghost use Rattle.std.specs.Prelude.{◌≡◌, ℕ, ◌+◌, ◌*◌, ◌≤◌, ◌<◌, length, get_or, pos};
 ghost use Rattle.planes.specs.Cells.{cells};
 ghost use Rattle.sums.specs.Sum.{Summable, Columns, RowSums, kept, entry, range_sum, RowIn, Rewritten, entered, left, slid, Spannable, Spans};

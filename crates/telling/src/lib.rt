@@ -1,5 +1,7 @@
 // Tells on standard output what a call answered, in words, and what a buffer holds: its length, of a short buffer the entries, and a digest of all
 // entries in order. An entry of the work area counts as its `kind`.
+#![tactic(auto)]
+
 use rules::{Answer, Band, Figure, Found, Outcome};
 
 fn say(n: u64) {

@@ -1,4 +1,6 @@
 // The program's text: the answer to an input, written into lent memory.
+#![tactic(auto)]
+
 ghost use Rattle.std.specs.Prelude.{◌≡◌, ◌+◌, ◌*◌, ◌≤◌, length, take};
 ghost use Rattle.fields.specs.Written.{Wrote};
 ghost use Rattle.records.specs.Judging.{cells};

@@ -1,4 +1,6 @@
 // The least over windows of 16-bit samples along a row, by blocks (van Herk), with the count of comparisons.
+#![tactic(auto)]
+
 ghost use Rattle.std.specs.Prelude.{◌≡◌, cond, ℕ, ◌+◌, ◌-◌, ◌*◌, ◌≤◌, ◌<◌, min, ltb, length, get_or};
 ghost use Rattle.rules.specs.Count.{hi, in_blocks, comparisons, samples};
 ghost use Rattle.windows.specs.Span.{span, windowed};
@@ -8,7 +10,7 @@ ghost use Rattle.windows.specs.Line.{entry, Written, fore, aft, Met};
 use numbers::{cut, less, lesser_u16, lesser_u32, lesser_usize};
 
 // A least, and how many comparisons it took.
-#[derive(Drop)]
+#[derive(Clone, Copy)]
 struct Least {
     value: u16,
     comparisons: usize,

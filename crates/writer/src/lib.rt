@@ -1,5 +1,7 @@
 // What the pipeline hands over: the map entries of a rectangle, then its cleared pixels from them. The entry of a hidden pixel is 10,000. Rows are written run by run, each through the part of the
 // lent buffer that starts at the run's first pixel.
+#![tactic(auto)]
+
 ghost use Rattle.std.specs.Prelude.{◌≡◌, ℕ, ◌+◌, ◌*◌, ◌≤◌, ◌<◌, max, length, get_or};
 ghost use Rattle.rules.specs.Window.{Plane, Shown};
 ghost use Rattle.rules.specs.Transmission.{Line};
