@@ -1,0 +1,17 @@
+-- `windows::halves` meets its contract. The invariant: the minima stand in the blocks before `first`, which is a block's start, and the count
+-- lacks what the rest of the line takes. Assumes nothing.
+use mathlib.Core.Path.{◌≡◌, refl, ◌∙◌}
+use Prim.Native.Nat.{◌+◌, ◌-◌, ◌≤◌}
+use native.Mathlib.Omega.{arith}
+use borrow.Author.Rules.{rules}
+use lib.ListN.{length}
+use Rattle.rules.proofs.Count.{inner, inner_le_two}
+use Rattle.windows.proofs.Lines.{HalvesTo, halves_none, halves_more, count_more, count_done}
+use Rattle.windows.proofs.halves.Given as goal
+
+abbrev pub invariant-loop-first : goal.invariant-loop-first
+invariant-loop-first l =
+    (length l.p ≡ length l.initial.p) × (length l.q ≡ length l.initial.q) × HalvesTo l.line l.p l.q l.n l.k l.first × (l.count + inner l.k (l.n - l.first) ≡ inner l.k l.n)
+
+abbrev pub decreases-loop-first : goal.decreases-loop-first
+decreases-loop-first l = l.n - l.first

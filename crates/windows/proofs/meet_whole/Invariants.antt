@@ -1,0 +1,14 @@
+-- `windows::meet_whole` meets its contract. The invariant: a is a block's start, and the whole windows before it are put together. Assumes nothing.
+use mathlib.Core.Path.{◌≡◌, ◌∙◌}
+use Prim.Native.Nat.{◌+◌, ◌-◌, ◌≤◌, min}
+use native.Mathlib.Omega.{arith}
+use borrow.Author.Rules.{rules}
+use lib.ListN.{length-set}
+use Rattle.windows.proofs.Windows.{WholeTo, whole_none, whole_more, met_few}
+use Rattle.windows.proofs.meet_whole.Given as goal
+
+abbrev pub invariant-loop-a : goal.invariant-loop-a
+invariant-loop-a l = WholeTo l.initial.line l.line l.p l.q l.s l.m l.a l.count
+
+abbrev pub decreases-loop-a : goal.decreases-loop-a
+decreases-loop-a l = l.m - l.a
