@@ -1,0 +1,59 @@
+-- `pixel::refined` meets its contract: the sum fits, and what is held of it is at most ten thousand for each of the n. Assumes nothing.
+use Prim.Native.Nat.{ℕ, ◌≤◌, ◌*◌, ◌/◌}
+use mathlib.Core.Path.{◌≡◌, ap, ap₂, ◌∙◌}
+use lib.IntN.{ℤ, pos, nat_abs, ◌+ℤ◌, ◌*ℤ◌}
+use native.Mathlib.Omega.{arith}
+use borrow.Author.Rules.{rules}
+use Rattle.rules.specs.Transmission.{held}
+use Rattle.rules.proofs.Integers.{rd, rd_is}
+use Rattle.pixel.proofs.Sizes.{refined_top, held_le, refined_le, refined_first}
+use Rattle.pixel.proofs.Scaled.{inverse_fits, inverse_is}
+use Rattle.pixel.proofs.refined.Goals as goal
+use Rattle.pixel.proofs.refined.Goals.{After-hold-v, After-over, After-unheld, Start}
+
+module _ (s : Start) where
+  abbrev n : ℕ
+  n = s.args.n
+
+  abbrev g : ℕ
+  g = s.args.g
+
+  abbrev sa : ℤ
+  sa = s.args.sa
+
+  abbrev sb : ℤ
+  sb = s.args.sb
+
+  -- what is held
+  abbrev sum : ℤ
+  sum = sa *ℤ pos g +ℤ sb
+
+-- what is handed over is what was given
+given : (s : Start) → rd (sa s) *ℤ pos (g s) +ℤ rd (sb s) ≡ sum s
+given s = ap₂ (λ (x y : ℤ). x *ℤ pos (g s) +ℤ y) (rd_is (sa s) (omega (arith, s.requires.4, s.requires.1))) (rd_is (sb s) (omega (arith, s.requires.5, s.requires.1)))
+
+v_is : (c : After-hold-v) → c.hold-v.result ≡ held (10240000 * n (goal.at.After-hold-v c).Start) (sum (goal.at.After-hold-v c).Start)
+v_is c =
+    let e = rd_is (sum (goal.at.After-hold-v c).Start) (omega (arith, refined_top (n (goal.at.After-hold-v c).Start) (g (goal.at.After-hold-v c).Start) (sa (goal.at.After-hold-v c).Start) (sb (goal.at.After-hold-v c).Start) c.requires.3 c.requires.4 c.requires.5, c.requires.1)) in
+    c.hold-v.ensures ∙ ap (λ (z : ℤ). held (10240000 * n (goal.at.After-hold-v c).Start) (rd z)) (c.unheld.ensures ∙ given (goal.at.After-hold-v c).Start) ∙ ap (held (10240000 * n (goal.at.After-hold-v c).Start)) e
+
+v_le : (c : After-hold-v) → c.hold-v.result ≤ 10240000 * n (goal.at.After-hold-v c).Start
+v_le c = rw (v_is c) (held_le (10240000 * n (goal.at.After-hold-v c).Start) (sum (goal.at.After-hold-v c).Start))
+
+pub unheld-requires : goal.unheld-requires
+unheld-requires c =
+    let few : n (goal.at.unheld-requires c).Start ≤ 14641 = c.requires.1 in
+    let a : nat_abs (sa (goal.at.unheld-requires c).Start) ≤ 37480960000 = omega (arith, c.requires.4, few) in
+    let b : nat_abs (sb (goal.at.unheld-requires c).Start) ≤ 31441308090368 = omega (arith, c.requires.5, few) in
+    (c.requires.3, rw (rd_is (sa (goal.at.unheld-requires c).Start) (omega (arith, a))) a, rw (rd_is (sb (goal.at.unheld-requires c).Start) (omega (arith, b))) b)
+
+pub over-requires : goal.over-requires
+over-requires c =
+    inverse_fits (n (goal.at.over-requires c).Start) c.args.inverse c.requires.0 c.requires.1 c.requires.2 (c.hold-v.result / 1024) (omega (arith, v_le (goal.at.over-requires c).After-hold-v))
+
+pub returns : goal.returns
+returns c =
+    let quotient = inverse_is (n (goal.at.returns c).Start) c.args.inverse c.requires.0 c.requires.1 c.requires.2 (c.hold-v.result / 1024) (omega (arith, v_le (goal.at.returns c).After-hold-v)) in
+    let held = ap (λ (v : ℕ). v / 1024 / n (goal.at.returns c).Start) (v_is (goal.at.returns c).After-hold-v) in
+    let r = c.over.ensures ∙ quotient ∙ held ∙ refined_first (n (goal.at.returns c).Start) (sa (goal.at.returns c).Start) (sb (goal.at.returns c).Start) (g (goal.at.returns c).Start) c.requires.0 in
+    (r, rw r (refined_le (n (goal.at.returns c).Start) (sa (goal.at.returns c).Start) (sb (goal.at.returns c).Start) (g (goal.at.returns c).Start)))
