@@ -1,0 +1,14 @@
+-- `columns::copy` meets its contract. The invariant: the first x entries are copied. Assumes nothing.
+use mathlib.Core.Path.{◌≡◌, refl}
+use Prim.Native.Nat.{◌+◌, ◌-◌, ◌≤◌}
+use native.Mathlib.Omega.{arith}
+use lib.ListN.{length, length-set}
+use Rattle.windows.specs.Line.{entry, Laid}
+use Rattle.windows.proofs.Lines.{laid_none, laid_more}
+use Rattle.columns.proofs.copy.Given as goal
+
+abbrev pub invariant-loop-x : goal.invariant-loop-x
+invariant-loop-x l = (l.x ≤ l.n) × (length l.out ≡ length l.initial.out) × Laid (λ i. entry l.row (l.at + i)) l.initial.out l.out l.to l.x
+
+abbrev pub decreases-loop-x : goal.decreases-loop-x
+decreases-loop-x l = l.n - l.x

@@ -1,0 +1,16 @@
+-- `fields::put_word` meets its contract. The invariant: writing what is left of the word from the present place on gives what writing the whole word
+-- gives. Assumes nothing.
+use mathlib.Core.Path.{◌≡◌, refl, sym, ◌∙◌}
+use Prim.Native.Nat.{◌≤◌, ◌-◌, ◌+◌}
+use native.Mathlib.Nat.{add-zero}
+use native.Mathlib.Omega.{arith}
+use lib.ListN.{length, get_or, set, drop, length-set}
+use lib.Seq.{sets}
+use Rattle.fields.proofs.Written.{word_more, word_done}
+use Rattle.fields.proofs.put_word.Given as goal
+
+abbrev pub invariant-loop-i : goal.invariant-loop-i
+invariant-loop-i l = (l.i ≤ length l.word) × (length l.out ≡ length l.initial.out) × (sets l.initial.out l.at l.word ≡ sets l.out (l.at + l.i) (drop l.i l.word))
+
+abbrev pub decreases-loop-i : goal.decreases-loop-i
+decreases-loop-i l = length l.word - l.i
