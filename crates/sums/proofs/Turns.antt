@@ -9,7 +9,7 @@ use lib.IntN.{ℤ, pos, nat_abs, ◌+ℤ◌, ◌-ℤ◌}
 use lib.ListN.{length, set, length-set}
 use lib.Seq.{get_or-set_same, get_or-set_other}
 use mir.Syntax.{w64}
-use mir.Val.{SFits, of_z, to_z}
+use mir.Val.{SFits}
 use Rattle.rules.specs.Fold.{Σ}
 use Rattle.rules.proofs.Integers.{fits, rd, rd_is, back, add_is, add_le, sub_is, sub_le}
 use Rattle.planes.proofs.Stored.{stored}
@@ -99,8 +99,8 @@ module _ (cols : List ℤ) (s : Spannable cols) where
   span_back a n h = rd_is (Σ ◌+ℤ◌ (pos 0) a n (entry cols)) (omega (arith, span_size a n h))
 
   -- one column more
-  pub adds : (a b acc : ℕ) → a ≤ b → b ≤ a + 121 → acc ≡ of_z w64 (range_sum (entry cols) a b)
-      → Computes (to_z w64 acc +ℤ rd (entry cols b)) (range_sum (entry cols) a (b + 1)) (span_most + column_most)
+  pub adds : (a b : ℕ) (acc : ℤ) → a ≤ b → b ≤ a + 121 → acc ≡ rd (range_sum (entry cols) a b)
+      → Computes (acc +ℤ rd (entry cols b)) (range_sum (entry cols) a (b + 1)) (span_most + column_most)
   adds a b acc lo hi e =
       rw (e, range_more (entry cols) a b lo)
       (sum (range_sum (entry cols) a b) (entry cols b) span_most column_most (span_size a (b - a) (omega arith)) (s.held b) (omega arith))
@@ -109,52 +109,52 @@ module _ (cols : List ℤ) (s : Spannable cols) where
   pub differs : (a d : ℕ) → Computes (rd (entry cols (a + d)) -ℤ rd (entry cols a)) (entry cols (a + d) -ℤ entry cols a) (column_most + column_most)
   differs a d = difference (entry cols (a + d)) (entry cols a) column_most column_most (s.held (a + d)) (s.held a) (omega arith)
 
--- acc holds the bits of the sum of the d columns from x + i on
-pub record Holds (cols : List ℤ) (x d i acc : ℕ) : Type 0 where
-  pub bits : acc ≡ of_z w64 (Σ ◌+ℤ◌ (pos 0) (x + i) d (entry cols))
+-- acc is the sum of the d columns from x + i on, as the machine reads it back
+pub record Holds (cols : List ℤ) (x d i : ℕ) (acc : ℤ) : Type 0 where
+  pub value : acc ≡ rd (Σ ◌+ℤ◌ (pos 0) (x + i) d (entry cols))
 
 -- the first, from x on
-pub holds_first : (cols : List ℤ) (x d : ℕ) (v : ℤ) → v ≡ range_sum (entry cols) x (x + d) → Holds cols x d 0 (of_z w64 v)
+pub holds_first : (cols : List ℤ) (x d : ℕ) (v : ℤ) → v ≡ range_sum (entry cols) x (x + d) → Holds cols x d 0 (rd v)
 holds_first cols x d v e =
     let n : x + d - x ≡ d = omega arith in
     let a : x ≡ x + 0 = omega arith in
-    record { bits = ap (of_z w64) (e ∙ ap₂ (λ (p k : ℕ). Σ ◌+ℤ◌ (pos 0) p k (entry cols)) a n) }
+    record { value = ap rd (e ∙ ap₂ (λ (p k : ℕ). Σ ◌+ℤ◌ (pos 0) p k (entry cols)) a n) }
 
-module _ {cols : List ℤ} {x d i acc : ℕ} (s : Spannable cols) (h : d ≤ 121) (b : Holds cols x d i acc) where
+module _ {cols : List ℤ} {x d i : ℕ} {acc : ℤ} (s : Spannable cols) (h : d ≤ 121) (b : Holds cols x d i acc) where
   -- what the sum becomes when it moves on by one column
   abbrev pub moved : ℤ
-  moved = to_z w64 acc +ℤ rd (rd (entry cols (x + i + d)) -ℤ rd (entry cols (x + i)))
+  moved = acc +ℤ rd (rd (entry cols (x + i + d)) -ℤ rd (entry cols (x + i)))
 
   -- it is the sum of the next d columns
   pub moves : Computes moved (Σ ◌+ℤ◌ (pos 0) (x + i + 1) d (entry cols)) (span_most + (column_most + column_most))
   moves =
       let a = x + i in
       let c = differs cols s a d in
-      rw (b.bits, c.is, sum_slide a d (entry cols))
+      rw (b.value, c.is, sum_slide a d (entry cols))
       (sum (Σ ◌+ℤ◌ (pos 0) a d (entry cols)) (entry cols (a + d) -ℤ entry cols a) span_most (column_most + column_most) (span_size cols s a d h) c.size (omega arith))
 
-  -- as the machine reads it back, and as it holds it
+  -- as the machine reads it back
   pub moved_back : rd moved ≡ Σ ◌+ℤ◌ (pos 0) (x + i + 1) d (entry cols)
   moved_back = back moved moves.fit ∙ moves.is
 
-  pub holds_next : Holds cols x d (i + 1) (of_z w64 moved)
+  pub holds_next : Holds cols x d (i + 1) (rd moved)
   holds_next =
       let e : x + i + 1 ≡ x + (i + 1) = omega arith in
-      record { bits = ap (of_z w64) (moves.is ∙ ap (λ (p : ℕ). Σ ◌+ℤ◌ (pos 0) p d (entry cols)) e) }
+      record { value = ap rd (moves.is ∙ ap (λ (p : ℕ). Σ ◌+ℤ◌ (pos 0) p d (entry cols)) e) }
 
 -- i sums stand in `out`, which has n entries, and the next is at hand
-pub record Running (n : ℕ) (out cols : List ℤ) (x d i acc : ℕ) : Type 0 where
+pub record Running (n : ℕ) (out cols : List ℤ) (x d i : ℕ) (acc : ℤ) : Type 0 where
   pub long : length out ≡ n
   pub holds : Holds cols x d i acc
   pub spans : Spans out cols x d i
 
 -- no sum yet
-pub running_none : (out cols : List ℤ) (x d : ℕ) (v : ℤ) → v ≡ range_sum (entry cols) x (x + d) → Running (length out) out cols x d 0 (of_z w64 v)
+pub running_none : (out cols : List ℤ) (x d : ℕ) (v : ℤ) → v ≡ range_sum (entry cols) x (x + d) → Running (length out) out cols x d 0 (rd v)
 running_none out cols x d v e = record { long = refl; holds = holds_first cols x d v e; spans = record { is = λ i q. absurd (not-suc-le-zero q) } }
 
 -- one sum more
-pub running_more : {n : ℕ} {out cols : List ℤ} {x d i acc : ℕ} (s : Spannable cols) (h : d ≤ 121) (r : Running n out cols x d i acc) → i < n
-    → Running n (set out i (rd (moved s h r.holds))) cols x d (i + 1) (of_z w64 (moved s h r.holds))
+pub running_more : {n : ℕ} {out cols : List ℤ} {x d i : ℕ} {acc : ℤ} (s : Spannable cols) (h : d ≤ 121) (r : Running n out cols x d i acc) → i < n
+    → Running n (set out i (rd (moved s h r.holds))) cols x d (i + 1) (rd (moved s h r.holds))
 running_more {n} {out} {cols} {x} {d} {i} s h r q = record {
   long = simp length-set r.long;
   holds = holds_next s h r.holds;

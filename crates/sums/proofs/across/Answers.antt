@@ -1,9 +1,8 @@
 -- `sums::across` meets its contract. The loop's invariant: both running sums have gone i places. Assumes nothing.
-use Prim.Native.Nat.{◌+◌, ◌≤◌, ◌-◌}
+use Prim.Native.Nat.{◌+◌}
 use mathlib.Core.Path.{◌≡◌}
-use lib.ListN.{length}
 use native.Mathlib.Omega.{arith}
-use Rattle.sums.proofs.Turns.{Running, running_none, running_more, differs, moves}
+use Rattle.sums.proofs.Turns.{running_none, running_more, differs, moves}
 use Rattle.sums.proofs.across.Goals as goal
 use Rattle.sums.proofs.across.Goals.{After-first-s, After-first-t, After-loop-i, After-s-1, After-s-in-loop-i-1, After-t-1, After-t-in-loop-i-1, In-loop-i, Start}
 

@@ -1,9 +1,7 @@
 -- `sums::across` meets its contract. The loop's invariant: both running sums have gone i places. Assumes nothing.
-use Prim.Native.Nat.{◌+◌, ◌≤◌, ◌-◌}
-use mathlib.Core.Path.{◌≡◌}
+use Prim.Native.Nat.{◌≤◌, ◌-◌}
 use lib.ListN.{length}
-use native.Mathlib.Omega.{arith}
-use Rattle.sums.proofs.Turns.{Running, running_none, running_more, differs, moves}
+use Rattle.sums.proofs.Turns.{Running}
 use Rattle.sums.proofs.across.Given as goal
 
 abbrev pub invariant-loop-i : goal.invariant-loop-i

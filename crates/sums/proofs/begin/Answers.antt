@@ -1,13 +1,11 @@
 -- `sums::begin` meets its contract. The loop's invariant: the columns are those of the rows above y. Assumes nothing.
-use Prim.Native.Nat.{◌+◌, ◌*◌, ◌≤◌, ◌<◌, ◌-◌}
-use mathlib.Core.Path.{◌≡◌, ◌∙◌, refl}
-use lib.ListN.{length}
+use Prim.Native.Nat.{◌+◌, ◌*◌, ◌≤◌, ◌<◌}
+use mathlib.Core.Path.{◌∙◌, refl}
 use native.Mathlib.Omega.{arith}
 use mir.Syntax.{w64}
 use mir.Val.{Fits}
-use Rattle.planes.specs.Cells.{cells}
 use Rattle.planes.proofs.Shown.{row_end}
-use Rattle.sums.specs.Sum.{Columns, RowIn}
+use Rattle.sums.specs.Sum.{RowIn}
 use Rattle.sums.proofs.Strips.{cells_row, summable_small, row_in, enter_strip, same_strip, none_strip}
 use Rattle.sums.proofs.begin.Goals as goal
 use Rattle.sums.proofs.begin.Goals.{After-cols-1, After-cut-end, After-enter-arg-1, After-less-y, After-loop-y, After-struct_known-1, In-loop-y, Start}

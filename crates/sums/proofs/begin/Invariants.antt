@@ -1,14 +1,9 @@
 -- `sums::begin` meets its contract. The loop's invariant: the columns are those of the rows above y. Assumes nothing.
-use Prim.Native.Nat.{◌+◌, ◌*◌, ◌≤◌, ◌<◌, ◌-◌}
-use mathlib.Core.Path.{◌≡◌, ◌∙◌, refl}
+use Prim.Native.Nat.{◌+◌, ◌≤◌, ◌-◌}
+use mathlib.Core.Path.{◌≡◌}
 use lib.ListN.{length}
-use native.Mathlib.Omega.{arith}
-use mir.Syntax.{w64}
-use mir.Val.{Fits}
 use Rattle.planes.specs.Cells.{cells}
-use Rattle.planes.proofs.Shown.{row_end}
-use Rattle.sums.specs.Sum.{Columns, RowIn}
-use Rattle.sums.proofs.Strips.{cells_row, summable_small, row_in, enter_strip, same_strip, none_strip}
+use Rattle.sums.specs.Sum.{Columns}
 use Rattle.sums.proofs.begin.Given as goal
 
 abbrev pub invariant-loop-y : goal.invariant-loop-y

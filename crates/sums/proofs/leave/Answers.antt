@@ -1,9 +1,8 @@
 -- `sums::leave` meets its contract. The loop's invariant is the contract at i columns. Assumes nothing.
-use Prim.Native.Nat.{◌≤◌, ◌-◌}
 use mathlib.Core.Path.{◌≡◌, refl}
-use lib.ListN.{length, length-set}
+use lib.ListN.{length-set}
 use native.Mathlib.Omega.{arith}
-use Rattle.sums.specs.Sum.{Rewritten, left}
+use Rattle.sums.specs.Sum.{left}
 use Rattle.sums.proofs.Turns.{Turn, rewritten_none, leaves, turned}
 use Rattle.sums.proofs.leave.Goals as goal
 use Rattle.sums.proofs.leave.Goals.{After-cols-1, After-cols-in-loop-i-1, After-loop-i, In-loop-i, Start}

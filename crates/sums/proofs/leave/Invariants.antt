@@ -1,10 +1,8 @@
 -- `sums::leave` meets its contract. The loop's invariant is the contract at i columns. Assumes nothing.
 use Prim.Native.Nat.{◌≤◌, ◌-◌}
-use mathlib.Core.Path.{◌≡◌, refl}
-use lib.ListN.{length, length-set}
-use native.Mathlib.Omega.{arith}
+use mathlib.Core.Path.{◌≡◌}
+use lib.ListN.{length}
 use Rattle.sums.specs.Sum.{Rewritten, left}
-use Rattle.sums.proofs.Turns.{Turn, rewritten_none, leaves, turned}
 use Rattle.sums.proofs.leave.Given as goal
 
 abbrev pub invariant-loop-i : goal.invariant-loop-i

@@ -1,9 +1,8 @@
 -- `sums::slide` meets its contract. The loop's invariant is the contract at i columns. Assumes nothing.
-use Prim.Native.Nat.{◌≤◌, ◌-◌}
 use mathlib.Core.Path.{◌≡◌, refl}
-use lib.ListN.{length, length-set}
+use lib.ListN.{length-set}
 use native.Mathlib.Omega.{arith}
-use Rattle.sums.specs.Sum.{Rewritten, slid}
+use Rattle.sums.specs.Sum.{slid}
 use Rattle.sums.proofs.Turns.{Turn, rewritten_none, enters, slides, turned}
 use Rattle.sums.proofs.slide.Goals as goal
 use Rattle.sums.proofs.slide.Goals.{After-cols-1, After-cols-in-loop-i-1, After-cols-in-loop-i-2-1, After-loop-i, In-loop-i, Start}

@@ -1,12 +1,9 @@
 -- `depth::thresholds::stored` meets its contract: the table in the code is that of the rule, by computing both. Assumes nothing.
 use mathlib.Core.Path.{refl}
 use Rattle.depth.specs.Table.{thresholds}
-use Rattle.depth.proofs.thresholds.stored.Statement.{statement}
-use Rattle.depth.proofs.thresholds.stored.Tie as tie
+use Rattle.depth.proofs.thresholds.stored.Goals as goal
+use Rattle.depth.proofs.thresholds.stored.Goals.{Start}
 
-returns : tie.Need-returns
+pub returns : goal.returns
 unfolding thresholds
 returns c = refl
-
-pub stored-spec : {M : Type 1} → statement M
-stored-spec = tie.close (tie.spec returns)

@@ -1,0 +1,19 @@
+-- `depth::depth_by` meets its contract. The loop's invariant: the depth is one of the numbers from `at` to `at` + `left`. Assumes nothing.
+use mathlib.Core.Path.{◌≡◌, ap}
+use mathlib.Core.Logic.{⊎_elim}
+use mathlib.Core.List.{List}
+use Prim.Native.Nat.{ℕ, ◌+◌, ◌-◌, ◌*◌, ◌/◌, ◌≤◌}
+use native.Mathlib.Omega.{arith}
+use borrow.Author.Rules.{rules}
+use lib.ListN.{length, get_or}
+use Rattle.depth.specs.Table.{thresholds, depth_of}
+use Rattle.depth.proofs.Place.{no_later, later}
+use Rattle.depth.proofs.Table.{count, falling}
+use Rattle.depth.proofs.Meaning.{bounds}
+use Rattle.depth.proofs.depth_by.Given as goal
+
+abbrev pub invariant-loop-left : goal.invariant-loop-left
+invariant-loop-left l = (l.at ≤ depth_of l.t) × (depth_of l.t ≤ l.at + l.left) × (l.at + l.left ≤ 918)
+
+abbrev pub decreases-loop-left : goal.decreases-loop-left
+decreases-loop-left l = l.left
