@@ -1,0 +1,14 @@
+-- `sizes::inverse_row` meets its contract. The loop's invariant is the contract at i sizes. Assumes nothing.
+use Prim.Native.Nat.{◌≤◌, ◌-◌}
+use mathlib.Core.Path.{◌≡◌, ◌∙◌, refl}
+use lib.ListN.{length, length-set}
+use native.Mathlib.Omega.{arith}
+use Rattle.sizes.specs.Sizes.{Table, Inverted}
+use Rattle.sizes.proofs.Counts.{inverted_none, inverted_more}
+use Rattle.sizes.proofs.inverse_row.Given as goal
+
+abbrev pub invariant-loop-i : goal.invariant-loop-i
+invariant-loop-i l = (l.i ≤ l.m) × (length l.table ≡ length l.initial.table) × (length l.inverses ≡ length l.initial.inverses) × Table l.table × Inverted l.i l.ns l.inverses
+
+abbrev pub decreases-loop-i : goal.decreases-loop-i
+decreases-loop-i l = l.m - l.i

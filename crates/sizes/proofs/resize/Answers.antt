@@ -1,0 +1,68 @@
+-- `sizes::resize` meets its contract: the sizes and reciprocals are worked out, or they are those of the row before, as the columns are. Assumes nothing.
+use Prim.Native.Nat.{◌+◌, ◌-◌, ◌*◌, ◌<◌}
+use mathlib.Core.Path.{◌≡◌, refl}
+use native.Mathlib.Omega.{arith}
+use Rattle.planes.specs.Stage.{box_seen}
+use Rattle.sums.proofs.Strips.{spannable}
+use Rattle.sizes.proofs.Bits.{bits_small}
+use Rattle.sizes.proofs.Rows.{still}
+use Rattle.sizes.proofs.Spanned.{counts, countable, sizes_all, sizes_same}
+use Rattle.sizes.proofs.resize.Goals as goal
+use Rattle.sizes.proofs.resize.Goals.{After-advance-arg-1, After-cols-1, After-inverse_row-arg-2-1, After-size_row-arg-1, After-slice_known-6-1, After-struct_known-1, Start, Then-unchanged, Then-y-gt0}
+
+-- the row lies in the plane
+inside : (s : Start) → s.args.v.top + s.args.y < s.args.v.h
+inside s = omega (arith, s.requires.in_plane.0.fits.rows, s.requires.in_plane.3)
+
+pub overflow_add-at : goal.overflow_add-at
+overflow_add-at c = omega (arith, inside (goal.at.overflow_add-at c).Start, c.requires.in_plane.0.low)
+
+pub unchanged-requires : goal.unchanged-requires
+unchanged-requires c = (c.requires.in_plane.0, c.requires.in_plane.1, c.requires.in_plane.2, inside (goal.at.unchanged-requires c).Start)
+
+-- nothing changes
+pub returns-then-unchanged : goal.returns-then-unchanged
+returns-then-unchanged c =
+    let a = c.args in
+    let v = a.v in
+    let next = still (c.unchanged.ensures c.if-unchanged.true) c.requires.columns_2.0 in
+    let e : v.top + a.y ≡ v.top + (a.y - 1) + 1 = omega (arith, c.if-y-gt0.true) in
+    record { columns = next; table = c.requires.in_plane.4; sizes = sizes_same (box_seen a.b a.mask.now) c.requires.in_plane.0 e (inside (goal.at.returns-then-unchanged c).Start) c.requires.columns_2.0 next (c.requires.columns_2.1 c.if-y-gt0.true) }
+
+pub advance-requires : goal.advance-requires
+advance-requires c =
+    record { in_plane = (c.requires.in_plane.0, c.requires.in_plane.1, c.requires.in_plane.2, inside (goal.at.advance-requires c).Start); columns = c.requires.columns_2.0 }
+
+pub overflow_mul-r : goal.overflow_mul-r
+overflow_mul-r c = omega (arith, c.requires.in_plane.2)
+
+pub overflow_add-r : goal.overflow_add-r
+overflow_add-r c = omega (arith, c.requires.in_plane.2)
+
+pub size_row-requires : goal.size_row-requires
+size_row-requires c =
+    let a = c.args in
+    let v = a.v in
+    let p = c.requires.in_plane.0 in
+    let cols = c.advance.ensures in record {
+      spannable = (
+        spannable (bits_small a.b a.mask.now p c.requires.in_plane.2) cols (omega arith),
+        omega (arith, c.requires.in_plane.2),
+        omega (arith, c.requires.in_plane.2, p.fits.columns, p.short),
+        c.requires.in_plane.5,
+      );
+      by_index = λ i q. counts (box_seen a.b a.mask.now) cols (inside (goal.at.size_row-requires c).Start) v.left (2 * a.r + 1) i refl (omega (arith, p.fits.columns));
+    }
+
+pub inverse_row-requires : goal.inverse_row-requires
+inverse_row-requires c =
+    let a = c.args in (
+      c.requires.in_plane.4,
+      countable (box_seen a.b a.mask.now) c.advance.ensures (inside (goal.at.inverse_row-requires c).Start) c.size_row.ensures refl c.requires.in_plane.0.fits.columns c.requires.in_plane.2
+          (omega (arith, c.size_row.auto.ns, c.requires.in_plane.5)),
+      c.requires.in_plane.6,
+    )
+
+pub returns : goal.returns
+returns c =
+    let a = c.args in record { columns = c.advance.ensures; table = c.inverse_row.ensures.table; sizes = sizes_all (box_seen a.b a.mask.now) c.requires.in_plane.0 c.advance.ensures (inside (goal.at.returns c).Start) refl c.size_row.ensures c.inverse_row.ensures.over }

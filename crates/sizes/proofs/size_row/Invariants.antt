@@ -1,0 +1,16 @@
+-- `sizes::size_row` meets its contract. The loop's invariant: s holds the sum before window i, and the sizes of the first i windows are there. Assumes nothing.
+use Prim.Native.Nat.{◌+◌, ◌≤◌, ◌-◌, max}
+use mathlib.Core.Path.{◌≡◌, ap, refl, ◌∙◌}
+use lib.ListN.{length, length-set}
+use lib.IntN.{ℤ, nat_abs}
+use native.Mathlib.Omega.{arith}
+use Rattle.sums.proofs.Turns.{Holds, holds_first, holds_next, differs, moves, moved_back}
+use Rattle.sizes.specs.Sizes.{Counted}
+use Rattle.sizes.proofs.Counts.{counted_none, counted_more, count_as}
+use Rattle.sizes.proofs.size_row.Given as goal
+
+abbrev pub invariant-loop-i : goal.invariant-loop-i
+invariant-loop-i l = (l.i ≤ l.n) × (length l.ns ≡ length l.initial.ns) × Holds l.cols l.x l.d l.i l.s × Counted l.cols l.x l.d l.i l.ns
+
+abbrev pub decreases-loop-i : goal.decreases-loop-i
+decreases-loop-i l = l.n - l.i
