@@ -1,0 +1,11 @@
+-- `coarse::word_by` meets its contract. Assumes nothing.
+use mir.Syntax.{w64}
+use mir.Facts.{to_z-of_z}
+use borrow.Author.Tests.{eq-eqb, ne_eqb}
+use Rattle.coarse.proofs.word_by.Goals as goal
+
+pub returns-then-m-eq0 : goal.returns-then-m-eq0
+returns-then-m-eq0 c = rw (eq-eqb _ _ c.if-m-eq0.true)
+
+pub returns-else-m-eq0 : goal.returns-else-m-eq0
+returns-else-m-eq0 c = rw (ne_eqb _ _ c.if-m-eq0.false) (to_z-of_z {w = w64} c.ranges.word)
