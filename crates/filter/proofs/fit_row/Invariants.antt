@@ -1,0 +1,17 @@
+-- `filter::fit_row` meets its contract. The loop's invariant is the contract at i pixels. Assumes nothing.
+use Prim.Native.Nat.{◌+◌, ◌-◌, ◌≤◌, ◌<◌}
+use mathlib.Core.Path.{◌≡◌, refl, ◌∙◌}
+use mathlib.Core.Logic.{⊎_elim}
+use native.Mathlib.Omega.{arith}
+use lib.ListN.{length}
+use borrow.Author.Rules.{rules}
+use Rattle.filter.specs.Row.{RowIn, flat_line, word_line, row_line, RowLines}
+use Rattle.filter.proofs.Rows.{row_none, row_turn, hidden_line, u_cast, v_cast, read_moments, read_line}
+use Rattle.filter.proofs.fit_row.Given as goal
+
+abbrev pub invariant-loop-i : goal.invariant-loop-i
+invariant-loop-i l =
+    (l.i ≤ l.n) × (length l.work ≡ length l.initial.work) × RowLines l.initial.work l.work l.slopes l.offsets l.i (row_line l.products l.squares l.ns l.e l.mask l.at)
+
+abbrev pub decreases-loop-i : goal.decreases-loop-i
+decreases-loop-i l = l.n - l.i

@@ -1,0 +1,15 @@
+-- `light::choose` meets its contract. The loop's invariant: the walk has come to row y. Assumes nothing.
+use mathlib.Core.Path.{◌≡◌, ap, ◌∙◌}
+use Prim.Native.Nat.{ℕ, ◌≤◌, ◌-◌, ◌+◌, ◌*◌}
+use native.Mathlib.Nat.{zero-mul, mul_comm, mul-pos}
+use native.Mathlib.Omega.{arith}
+use Rattle.light.specs.Steps.{Walked}
+use Rattle.light.proofs.Keeping.{start, chosen}
+use Rattle.light.proofs.Areas.{row_end, row_next}
+use Rattle.light.proofs.choose.Given as goal
+
+abbrev pub invariant-loop-y : goal.invariant-loop-y
+invariant-loop-y l = (l.y ≤ l.h) × Walked l.frame l.work l.cut (l.y * l.w) l.b
+
+abbrev pub decreases-loop-y : goal.decreases-loop-y
+decreases-loop-y l = l.h - l.y
