@@ -1,0 +1,19 @@
+-- `writer::recover_row` meets its contract: after x turns the run is x pixels long. Assumes nothing.
+use mathlib.Core.Path.{◌≡◌, refl, ap}
+use Prim.Native.Nat.{ℕ, ◌+◌, ◌-◌, ◌*◌, ◌≤◌, ◌<◌}
+use native.Mathlib.Omega.{arith}
+use lib.ListN.{length, length-set}
+use Rattle.writer.specs.Run.{Run}
+use Rattle.writer.specs.Row.{Scales, Floored, bytes_of, cleared_by}
+use Rattle.writer.proofs.Runs.{run_none, run_to}
+use Rattle.writer.proofs.Recovered.{recover_more}
+use Rattle.writer.proofs.recover_row.Given as goal
+
+abbrev pub invariant-loop-x : goal.invariant-loop-x
+invariant-loop-x l =
+    (l.x ≤ l.n)
+    × (length l.picture ≡ length l.initial.picture)
+    × ((T : ℕ → ℕ) → Floored T l.n → Scales T l.n l.scales → Run (bytes_of (cleared_by l.a l.frame l.p T)) (3 * l.p) (3 * l.x) l.initial.picture l.picture)
+
+abbrev pub decreases-loop-x : goal.decreases-loop-x
+decreases-loop-x l = l.n - l.x

@@ -1,0 +1,15 @@
+-- `writer::refine_row` meets its contract: after i turns the run is i entries long. Assumes nothing.
+use mathlib.Core.Path.{◌≡◌}
+use Prim.Native.Nat.{◌-◌, ◌≤◌, ◌<◌}
+use native.Mathlib.Omega.{arith}
+use Rattle.writer.specs.Run.{Run}
+use Rattle.writer.specs.Row.{entry_from}
+use Rattle.writer.proofs.Runs.{run_none, run_to, run_more}
+use Rattle.writer.proofs.Refined.{window_asks, entry_is}
+use Rattle.writer.proofs.refine_row.Given as goal
+
+abbrev pub invariant-loop-i : goal.invariant-loop-i
+invariant-loop-i l = (l.i ≤ l.n) × Run (entry_from l.mask l.frame l.p l.slopes l.offsets l.ns) l.p l.i l.initial.map l.map
+
+abbrev pub decreases-loop-i : goal.decreases-loop-i
+decreases-loop-i l = l.n - l.i
