@@ -2,24 +2,16 @@
 use mathlib.Core.Path.{ap, ap₂, ◌∙◌}
 use mathlib.Core.List.{List}
 use Prim.Native.Nat.{ℕ}
-use borrow.Author.Rules.{rules}
 use Rattle.fields.proofs.Places.{on_on}
 use Rattle.fields.specs.Fields.{field_of, field_at}
 use Rattle.fields.specs.Parts.{on}
-use Rattle.settings.proofs.value_of.Statement.{statement}
-use Rattle.settings.proofs.value_of.Tie as tie
+use Rattle.settings.proofs.value_of.Goals as goal
 
-part-requires : tie.Need-part-requires
-part-requires c κs = search rules
-
-field-requires : tie.Need-field-requires
-field-requires c κs = search rules
-
-returns : tie.Need-returns
+pub returns : goal.returns
 returns c =
-    let line = c.before.part.ensures in
+    let line = c.part.ensures in
     let value = c.field.ensures in
-    let a = c.before.before.before.args in
+    let a = c.args in
     record {
       bytes = value.field ∙ ap (λ (l : List ℕ). field_of 9 l 2) line.field;
       memory =
@@ -27,6 +19,3 @@ returns c =
           ∙ ap₂ (λ (p : ℕ × ℕ) (l : List ℕ). on p (field_at 9 l 2)) line.lies line.field
           ∙ on_on a.text.ref_ptr (field_at 10 a.text.now a.k) (field_at 9 (field_of 10 a.text.now a.k) 2);
     }
-
-pub value-of-spec : {M : Type 1} → statement M
-value-of-spec = tie.close (tie.spec part-requires field-requires returns)
