@@ -8,7 +8,7 @@ use Rattle.rules.specs.Refusals.{first}
 use Rattle.fields.specs.Decimal.{value_from}
 use Rattle.ppm.specs.declared.Taken.{Taken}
 use Rattle.pnm.specs.Gap.{Parts, GoodParts, header, Alike}
-use Rattle.ppm.specs.Promise.{size, maximum, pixels, tests_body, tests_lent, refuse_size, refuse_read, Sizes, Reads}
+use Rattle.ppm.specs.Promise.{size, pixels, tests_body, tests_lent, refuse_size, refuse_read, Sizes, Reads}
 use Rattle.pnm.proofs.Headers.{Says, header_says}
 
 module _ {s : List ℕ} {w h top : ℕ} {behind : List ℕ} (f : Says 54 s w h top behind) where

@@ -49,7 +49,7 @@ bytes_of field house (Refused n) = []
 abbrev pub memory_of : Bor (List ℕ) → Bor (List ℕ) → Source → ℕ × ℕ
 memory_of field house (Field k) = on field.ref_ptr (value_at field.now k)
 memory_of field house (House k) = on house.ref_ptr (value_at house.now k)
-memory_of field house (Refused n) = on field.ptr 0
+memory_of field house (Refused n) = on field.ref_ptr 0
 
 -- ---- the promises
 

@@ -1,12 +1,8 @@
 -- `fields::end_of` meets its contract. The invariant: no byte passed is the separator. Assumes nothing.
-use mathlib.Core.Path.{◌≡◌}
-use Prim.Native.Nat.{ℕ, ◌≤◌, ◌<◌, ◌-◌}
 use native.Mathlib.Omega.{arith}
-use lib.ListN.{length, get_or}
 use borrow.Author.Rules.{rules}
 use borrow.Author.Count.{below_more}
 use Rattle.fields.proofs.end_of.Goals as goal
-use Rattle.fields.proofs.end_of.Goals.{After-loop-i, After-shared_slice_known-1-unread, Else-s-i, Start, Then-s-i}
 
 pub loop-i-init : goal.loop-i-init
 loop-i-init c = (omega arith, omega arith, λ k l g. absurd (let z : ⊥ = omega arith in z))

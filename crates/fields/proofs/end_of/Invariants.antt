@@ -1,10 +1,7 @@
 -- `fields::end_of` meets its contract. The invariant: no byte passed is the separator. Assumes nothing.
 use mathlib.Core.Path.{◌≡◌}
 use Prim.Native.Nat.{ℕ, ◌≤◌, ◌<◌, ◌-◌}
-use native.Mathlib.Omega.{arith}
 use lib.ListN.{length, get_or}
-use borrow.Author.Rules.{rules}
-use borrow.Author.Count.{below_more}
 use Rattle.fields.proofs.end_of.Given as goal
 
 abbrev pub invariant-loop-i : goal.invariant-loop-i

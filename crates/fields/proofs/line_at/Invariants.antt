@@ -1,15 +1,8 @@
 -- `fields::line_at` meets its contract. The invariant: reading on from place i in the present field gives the line's answer. Assumes nothing.
-use mathlib.Core.Path.{◌≡◌, refl, sym, ap, ◌∙◌}
-use mathlib.Core.Logic.{⊎_elim}
-use Prim.Native.Nat.{ℕ, ◌≤◌, ◌-◌, ◌+◌}
-use native.Mathlib.Numerals.{add-one}
-use native.Mathlib.Omega.{arith}
+use mathlib.Core.Path.{◌≡◌}
+use Prim.Native.Nat.{◌≤◌, ◌-◌, ◌+◌}
 use lib.ListN.{length, drop}
-use borrow.Author.Rules.{rules}
-use Rattle.fields.specs.declared.Class.TheVariants.{Digit, Lower, Tab, LineEnd, Other}
-use Rattle.fields.specs.declared.Class.{Class}
-use Rattle.fields.specs.Bytes.{counted, on_class, scan, line_of}
-use Rattle.fields.proofs.Classes.{turn_at, turn_none}
+use Rattle.fields.specs.Bytes.{scan, line_of}
 use Rattle.fields.proofs.line_at.Given as goal
 
 abbrev pub invariant-loop-i : goal.invariant-loop-i

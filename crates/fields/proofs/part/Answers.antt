@@ -1,15 +1,14 @@
 -- `fields::part` meets its contract. The invariant: the part that is asked for is that many parts on in what is left of the text. Assumes nothing.
-use mathlib.Core.Path.{◌≡◌, sym, ap, ◌∙◌}
-use Prim.Native.Nat.{◌≤◌, ◌<◌, ◌-◌}
+use mathlib.Core.Path.{sym, ap, ◌∙◌}
+use Prim.Native.Nat.{◌<◌}
 use native.Mathlib.Omega.{arith}
 use native.Mathlib.Nat.{sub-zero}
-use lib.ListN.{length, drop}
+use lib.ListN.{length}
 use borrow.Author.Rules.{rules}
 use Rattle.fields.specs.Fields.{split, field_of, begins, field_at}
 use Rattle.fields.specs.Parts.{on}
 use Rattle.fields.proofs.Split.{part_here, part_next, part_none, place_here, place_next, place_none}
 use Rattle.fields.proofs.part.Goals as goal
-use Rattle.fields.proofs.part.Goals.{After-end_of-e-2, After-loop-k, After-result-1, After-result-2-1, After-shared_slice_known-1, Else-e-s, In-loop-k, Then-e-s}
 
 pub loop-k-init : goal.loop-k-init
 unfolding field_at

@@ -1,13 +1,8 @@
 -- `fields::part` meets its contract. The invariant: the part that is asked for is that many parts on in what is left of the text. Assumes nothing.
-use mathlib.Core.Path.{◌≡◌, sym, ap, ◌∙◌}
-use Prim.Native.Nat.{◌≤◌, ◌<◌, ◌-◌}
-use native.Mathlib.Omega.{arith}
-use native.Mathlib.Nat.{sub-zero}
+use mathlib.Core.Path.{◌≡◌}
+use Prim.Native.Nat.{◌≤◌, ◌-◌}
 use lib.ListN.{length, drop}
-use borrow.Author.Rules.{rules}
 use Rattle.fields.specs.Fields.{split, field_of, begins, field_at}
-use Rattle.fields.specs.Parts.{on}
-use Rattle.fields.proofs.Split.{part_here, part_next, part_none, place_here, place_next, place_none}
 use Rattle.fields.proofs.part.Given as goal
 
 abbrev pub invariant-loop-k : goal.invariant-loop-k

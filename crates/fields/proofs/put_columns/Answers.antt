@@ -1,14 +1,14 @@
 -- `fields::put_columns` meets its contract. The invariant: writing the numbers that are left from the present place on gives what writing all of them
 -- gives, and ends where that ends. Assumes nothing.
 use mathlib.Core.Path.{◌≡◌, refl, sym, ap, ◌∙◌}
-use Prim.Native.Nat.{◌≤◌, ◌-◌, ◌+◌, ◌<◌}
+use Prim.Native.Nat.{◌<◌}
 use native.Mathlib.Omega.{arith}
-use lib.ListN.{length, drop, length-set}
+use lib.ListN.{length, drop}
 use lib.Seq.{sets}
 use Rattle.fields.specs.Written.{columns}
 use Rattle.fields.proofs.Written.{columns_length, columns_done, columns_more}
 use Rattle.fields.proofs.put_columns.Goals as goal
-use Rattle.fields.proofs.put_columns.Goals.{After-loop-i, After-put_column-arg-1, After-shared_slice_known-1, After-shared_slice_known-in-loop-i-1, After-shared_slice_known-in-loop-i-1-unread, After-slice_known-in-loop-i-1}
+use Rattle.fields.proofs.put_columns.Goals.{After-loop-i}
 
 pub loop-i-init : goal.loop-i-init
 loop-i-init c = (omega arith, refl, refl, refl)
@@ -34,9 +34,9 @@ loop-i-preserved c =
     let h = c.loop-i-test.true in
     let n = columns_length c.args.numbers.now l.i h in (
       omega arith,
-      w.auto.0 ∙ l.invariant.1,
+      w.auto.out ∙ l.invariant.1,
       omega (arith, w.ensures.ends, l.invariant.2, n),
-      l.invariant.3 ∙ columns_more c.args.numbers.now l.i l.out w.new.0 l.next w.result h w.ensures,
+      l.invariant.3 ∙ columns_more c.args.numbers.now l.i l.out w.new.out l.next w.result h w.ensures,
     )
 
 -- where the line end goes

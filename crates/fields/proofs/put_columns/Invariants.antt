@@ -1,12 +1,10 @@
 -- `fields::put_columns` meets its contract. The invariant: writing the numbers that are left from the present place on gives what writing all of them
 -- gives, and ends where that ends. Assumes nothing.
-use mathlib.Core.Path.{◌≡◌, refl, sym, ap, ◌∙◌}
-use Prim.Native.Nat.{◌≤◌, ◌-◌, ◌+◌, ◌<◌}
-use native.Mathlib.Omega.{arith}
-use lib.ListN.{length, drop, length-set}
+use mathlib.Core.Path.{◌≡◌}
+use Prim.Native.Nat.{◌≤◌, ◌-◌, ◌+◌}
+use lib.ListN.{length, drop}
 use lib.Seq.{sets}
 use Rattle.fields.specs.Written.{columns}
-use Rattle.fields.proofs.Written.{columns_length, columns_done, columns_more}
 use Rattle.fields.proofs.put_columns.Given as goal
 
 abbrev pub invariant-loop-i : goal.invariant-loop-i

@@ -1,14 +1,12 @@
 -- `fields::put_word` meets its contract. The invariant: writing what is left of the word from the present place on gives what writing the whole word
 -- gives. Assumes nothing.
 use mathlib.Core.Path.{◌≡◌, refl, sym, ◌∙◌}
-use Prim.Native.Nat.{◌≤◌, ◌-◌, ◌+◌}
+use Prim.Native.Nat.{◌+◌}
 use native.Mathlib.Nat.{add-zero}
 use native.Mathlib.Omega.{arith}
-use lib.ListN.{length, get_or, set, drop, length-set}
-use lib.Seq.{sets}
+use lib.ListN.{length, get_or, set, length-set}
 use Rattle.fields.proofs.Written.{word_more, word_done}
 use Rattle.fields.proofs.put_word.Goals as goal
-use Rattle.fields.proofs.put_word.Goals.{After-loop-i, After-shared_slice_known-1, Start}
 
 pub loop-i-init : goal.loop-i-init
 loop-i-init c = (omega arith, refl, rw add-zero)

@@ -1,12 +1,8 @@
 -- `fields::read_digits` meets its contract. The invariant: the digits that are left, read on from the present value, give the number. Assumes nothing.
-use mathlib.Core.Path.{◌≡◌, refl, sym, ap, ◌∙◌}
+use mathlib.Core.Path.{◌≡◌}
 use Prim.Native.Nat.{◌≤◌, ◌<◌, ◌-◌, ◌^◌}
-use native.Mathlib.Omega.{arith}
 use lib.ListN.{length, drop}
-use Rattle.fields.specs.declared.Number.TheVariants.{Is}
-use Rattle.fields.specs.Decimal.{digit, digits, value_from}
-use Rattle.fields.proofs.Every.{every_end}
-use Rattle.fields.proofs.Numerals.{value_step, digits_step, digits_low, digits_high, value_end, ten_more, ten_most, bad_empty, bad_long, bad_digits, good}
+use Rattle.fields.specs.Decimal.{digits, value_from}
 use Rattle.fields.proofs.read_digits.Given as goal
 
 abbrev pub invariant-loop-i : goal.invariant-loop-i

@@ -1,12 +1,8 @@
 -- `fields::same` meets its contract. The invariant: the two texts are the same exactly if what is left of them is. Assumes nothing.
-use mathlib.Core.Path.{◌≡◌, refl, sym, ◌∙◌}
-use Prim.Native.Nat.{◌≤◌, ◌-◌}
+use mathlib.Core.Path.{refl, sym, ◌∙◌}
 use native.Mathlib.Omega.{arith}
-use lib.ListN.{length, drop}
-use Rattle.fields.specs.Fields.{same}
 use Rattle.fields.proofs.Alike.{unlike_length, same_step, same_stop, same_end}
 use Rattle.fields.proofs.same.Goals as goal
-use Rattle.fields.proofs.same.Goals.{After-loop-i, After-shared_slice_known-1-unread, After-shared_slice_known-in-loop-i-1-unread, Else-a-b, Else-a-i, Then-a-b, Then-a-i}
 
 pub returns-then-a-b : goal.returns-then-a-b
 returns-then-a-b c = sym (unlike_length c.args.a.now c.args.b.now c.if-a-b.true)

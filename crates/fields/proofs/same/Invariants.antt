@@ -1,10 +1,8 @@
 -- `fields::same` meets its contract. The invariant: the two texts are the same exactly if what is left of them is. Assumes nothing.
-use mathlib.Core.Path.{◌≡◌, refl, sym, ◌∙◌}
+use mathlib.Core.Path.{◌≡◌}
 use Prim.Native.Nat.{◌≤◌, ◌-◌}
-use native.Mathlib.Omega.{arith}
 use lib.ListN.{length, drop}
 use Rattle.fields.specs.Fields.{same}
-use Rattle.fields.proofs.Alike.{unlike_length, same_step, same_stop, same_end}
 use Rattle.fields.proofs.same.Given as goal
 
 abbrev pub invariant-loop-i : goal.invariant-loop-i
