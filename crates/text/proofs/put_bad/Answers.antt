@@ -1,0 +1,15 @@
+-- `text::put_bad` meets its contract. Assumes nothing.
+use native.Mathlib.Omega.{arith}
+use Rattle.text.specs.Text.{bad_line}
+use Rattle.text.proofs.Writing.{bad_most}
+use borrow.Author.Rules.{rules}
+use Rattle.text.proofs.put_bad.Goals as goal
+use Rattle.text.proofs.put_bad.Goals.{After-numbers-1}
+
+pub put_row-requires : goal.put_row-requires
+put_row-requires c =
+    omega (arith, c.requires, bad_most c.args.number c.args.line c.ranges.number.fits c.ranges.line.fits)
+
+pub returns : goal.returns
+unfolding bad_line
+returns c = c.put_row.ensures

@@ -1,0 +1,30 @@
+-- `text::put_light` meets its contract. Assumes nothing.
+use native.Mathlib.Omega.{arith}
+use Prim.Native.Nat.{◌≤◌}
+use lib.ListN.{length}
+use mathlib.Core.List.{[], ◌∷◌}
+use Rattle.fields.specs.Words.{bytes}
+use Rattle.fields.specs.Written.{row}
+use Rattle.text.specs.Text.{light_line}
+use Rattle.text.proofs.Writing.{light_most}
+use borrow.Author.Rules.{rules}
+use Rattle.text.proofs.put_light.Goals as goal
+use Rattle.text.proofs.put_light.Goals.{After-numbers-1, After-slice_known-2-1}
+
+-- ?? cast-t7 : tie.Need-overflow-cast-t7
+-- cast-t7 c = search rules
+
+-- the line fits
+fits : (c : After-numbers-1) → let a = c.args.a in length (row (bytes "light") (a.r ∷ a.g ∷ a.b ∷ [])) ≤ 18
+fits c =
+    let a = c.args.a in
+    light_most a.r a.g a.b (omega arith) (omega arith) (omega arith)
+
+pub put_row-requires : goal.put_row-requires
+put_row-requires c = omega (arith, fits (goal.at.put_row-requires c).After-numbers-1, c.requires)
+
+pub returns : goal.returns
+unfolding light_line
+returns c =
+    let w = c.put_row.ensures in
+    (w, omega (arith, w.ends, fits (goal.at.returns c).After-numbers-1))
