@@ -23,6 +23,18 @@ slice_bounds-map-end c = omega (arith, few _ c.requires.size_small)
 pub slice_bounds-picture-end : goal.slice_bounds-picture-end
 slice_bounds-picture-end c = omega (arith, few _ c.requires.size_small)
 
+pub slice_bounds-show-end : goal.slice_bounds-show-end
+slice_bounds-show-end c = sym (length-take-le _ _ (omega (arith, few _ c.requires.size_small)))
+
+pub slice_bounds-show-end-2 : goal.slice_bounds-show-end-2
+slice_bounds-show-end-2 c = sym (length-take-le _ _ (omega (arith, few _ c.requires.size_small, c.requires)))
+
+pub slice_bounds-show-end-3 : goal.slice_bounds-show-end-3
+slice_bounds-show-end-3 c = sym (length-take-le _ _ (omega (arith, few _ c.requires.size_small)))
+
+pub slice_bounds-show-end-4 : goal.slice_bounds-show-end-4
+slice_bounds-show-end-4 c = sym (length-take-le _ _ (omega (arith, few _ c.requires.size_small)))
+
 pub show-requires : goal.show-requires
 show-requires c =
     prepared c.args.z c.args.k c.args.frame.now _ _ _ _ c.requires (omega arith) (omega arith) (omega arith)

@@ -11,8 +11,6 @@ use borrow.Author.Rules.{rules}
 use Rattle.text.proofs.put_light.Goals as goal
 use Rattle.text.proofs.put_light.Goals.{After-numbers-1, After-slice_known-2-1}
 
--- ?? cast-t7 : tie.Need-overflow-cast-t7
--- cast-t7 c = search rules
 
 -- the line fits
 fits : (c : After-numbers-1) → let a = c.args.a in length (row (bytes "light") (a.r ∷ a.g ∷ a.b ∷ [])) ≤ 18

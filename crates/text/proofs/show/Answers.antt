@@ -10,9 +10,8 @@ put_outs-requires c = search (rules, c.requires)
 pub returns-in-Light : goal.returns-in-Light
 returns-in-Light c =
     let l = c.light in
-    let f = c.f-1 in
     let k = c.clear in
-    finished c.args.z c.args.k c.args.mask.now (record { frame = c.args.frame.now; map = c.args.map.now; picture = c.args.picture.now; work = c.args.work.now }) _ c.requires l.result _ l.ensures f.given.0.0 k.result _ c.args.out.now _ _ _ _ f.given.1 l.auto.work
+    finished c.args.z c.args.k c.args.mask.now (record { frame = c.args.frame.now; map = c.args.map.now; picture = c.args.picture.now; work = c.args.work.now }) _ c.requires l.result _ l.ensures c.in-Light.f k.result _ c.args.out.now _ _ _ _ c.in-Light.is l.auto.work
     k.ensures k.auto.map c.put_light-at.ensures.0 c.put_outs.ensures
 
 pub returns-in-Refused : goal.returns-in-Refused
