@@ -8,7 +8,7 @@ use lib.ListN.{get_or}
 use Rattle.rules.specs.declared.Settings.{Settings}
 use Rattle.rules.specs.declared.Rgb.{Rgb}
 use Rattle.rules.specs.Light.{guide}
-use Rattle.rules.specs.Buffers.{pixel_at, pixels, seen_in, masked}
+use Rattle.rules.specs.Buffers.{pixels, seen_in, masked}
 use Rattle.planes.specs.declared.View.{View}
 use Rattle.planes.specs.View.{InPlane, row_start}
 use Rattle.planes.specs.Stage.{GivenView, seen_at, masked_at, box_seen, box_pixels}

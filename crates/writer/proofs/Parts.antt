@@ -7,7 +7,6 @@ use native.Mathlib.Decide.{dec_lt}
 use native.Mathlib.Omega.{arith}
 use lib.ListN.{length, get_or, take, drop, length-append, length-drop, get_or-append}
 use lib.Seq.{get_or-take, get_or-drop, get_or-append-add, length-take-le}
-use Rattle.rules.specs.Light.{at}
 use Rattle.writer.specs.Run.{Run}
 
 -- ---- a list xs whose part of k elements from a on has come back as ys

@@ -5,9 +5,7 @@ use Rattle.rules.specs.Transmission.{map_entry}
 use Rattle.rules.specs.Picture.{cleared}
 use Rattle.rules.specs.Buffers.{pixels, masked, values, clear}
 use Rattle.clearing.proofs.Grown.{nested_all, entries_all, bytes_all}
-use borrow.Author.Rules.{rules}
 use Rattle.clearing.proofs.clear_whole.Goals as goal
-use Rattle.clearing.proofs.clear_whole.Goals.{After-refresh-arg-3-1, After-work-1}
 
 pub refresh-requires : goal.refresh-requires
 refresh-requires c =

@@ -1,12 +1,9 @@
 -- `clearing::copy_run` meets its contract: after p turns the run is p long. Assumes nothing.
 use mathlib.Core.Path.{◌≡◌, refl}
-use Prim.Native.Nat.{◌≤◌, ◌-◌}
 use native.Mathlib.Omega.{arith}
 use lib.ListN.{get_or}
-use Rattle.writer.specs.Run.{Run}
 use Rattle.writer.proofs.Runs.{run_none, run_to, run_more}
 use Rattle.clearing.proofs.copy_run.Goals as goal
-use Rattle.clearing.proofs.copy_run.Goals.{After-shared_slice_known-1}
 
 pub loop-p-init : goal.loop-p-init
 loop-p-init c = (omega arith, run_none _ _ _)

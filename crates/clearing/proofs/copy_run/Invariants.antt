@@ -1,10 +1,7 @@
 -- `clearing::copy_run` meets its contract: after p turns the run is p long. Assumes nothing.
-use mathlib.Core.Path.{◌≡◌, refl}
 use Prim.Native.Nat.{◌≤◌, ◌-◌}
-use native.Mathlib.Omega.{arith}
 use lib.ListN.{get_or}
 use Rattle.writer.specs.Run.{Run}
-use Rattle.writer.proofs.Runs.{run_none, run_to, run_more}
 use Rattle.clearing.proofs.copy_run.Given as goal
 
 abbrev pub invariant-loop-p : goal.invariant-loop-p

@@ -1,9 +1,7 @@
 -- `clearing::grow` meets its contract, side by side. Assumes nothing.
 use mathlib.Core.Path.{ap₂}
 use Prim.Native.Nat.{◌-◌}
-use borrow.Author.Rules.{rules}
 use Rattle.clearing.proofs.grow.Goals as goal
-use Rattle.clearing.proofs.grow.Goals.{After-cut-low}
 
 pub returns : goal.returns
 returns c =

@@ -8,9 +8,7 @@ use Rattle.planes.specs.View.{box_of}
 use Rattle.planes.specs.Stage.{box_seen, box_pixels}
 use native.Mathlib.Omega.{arith}
 use Rattle.clearing.proofs.Fresh.{same_after, lines_fit}
-use borrow.Author.Rules.{rules}
 use Rattle.clearing.proofs.lines.Goals as goal
-use Rattle.clearing.proofs.lines.Goals.{After-fit-arg-1, After-work-2-1}
 
 pub fit-requires : goal.fit-requires
 fit-requires c =

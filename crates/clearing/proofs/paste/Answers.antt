@@ -5,13 +5,11 @@ use native.Mathlib.Nat.{mul-le-mul_right}
 use native.Mathlib.Omega.{arith}
 use lib.ListN.{length, get_or}
 use Rattle.rules.specs.Shape.{described}
-use Rattle.rules.specs.Buffers.{byte_at, placed}
 use Rattle.writer.proofs.Runs.{run_as}
-use Rattle.writer.proofs.Parts.{Upto}
-use Rattle.writer.proofs.Rows.{rows, byte_in, bytes_none, bytes_more, upto_bytes}
+use Rattle.writer.proofs.Rows.{bytes_none, bytes_more, upto_bytes}
 use Rattle.writer.proofs.Placed.{Row, row_of, placed_at}
 use Rattle.clearing.proofs.paste.Goals as goal
-use Rattle.clearing.proofs.paste.Goals.{After-loop-j, After-shared_slice_known-1, After-slice_known-in-loop-j-1, In-loop-j, Start}
+use Rattle.clearing.proofs.paste.Goals.{In-loop-j, Start}
 
 wide : (s : Start) → 0 < s.args.z.w
 wide s = omega (arith, s.requires.0.some_w, s.requires.0.across)

@@ -1,15 +1,9 @@
 -- `clearing::paste` meets its contract: after j turns the first j rows of the new pixels are in the frame. Assumes nothing.
-use mathlib.Core.Path.{◌≡◌, ◌∙◌, refl}
-use Prim.Native.Nat.{◌+◌, ◌-◌, ◌*◌, ◌≤◌, ◌<◌}
-use native.Mathlib.Nat.{mul-le-mul_right}
-use native.Mathlib.Omega.{arith}
-use lib.ListN.{length, get_or}
+use Prim.Native.Nat.{◌-◌, ◌≤◌}
 use Rattle.rules.specs.Shape.{described}
 use Rattle.rules.specs.Buffers.{byte_at, placed}
-use Rattle.writer.proofs.Runs.{run_as}
 use Rattle.writer.proofs.Parts.{Upto}
-use Rattle.writer.proofs.Rows.{rows, byte_in, bytes_none, bytes_more, upto_bytes}
-use Rattle.writer.proofs.Placed.{Row, row_of, placed_at}
+use Rattle.writer.proofs.Rows.{rows, byte_in}
 use Rattle.clearing.proofs.paste.Given as goal
 
 abbrev pub invariant-loop-j : goal.invariant-loop-j

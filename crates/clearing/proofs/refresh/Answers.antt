@@ -8,9 +8,8 @@ use Rattle.rules.specs.Promise.{wiped}
 use Rattle.planes.proofs.Wiped.{wiped_same}
 use Rattle.clearing.specs.Call.{whole_rect}
 use Rattle.clearing.proofs.Fresh.{box_lines, inside_area, planes_le, rect_view, lines_view, entries_view, entries_framed, entries_placed, box_given, lines_left, map_left, picture_left}
-use borrow.Author.Rules.{rules}
 use Rattle.clearing.proofs.refresh.Goals as goal
-use Rattle.clearing.proofs.refresh.Goals.{After-within, After-within-2, After-work-2-1, After-write_picture-arg-1, Start}
+use Rattle.clearing.proofs.refresh.Goals.{Start}
 
 room_for : (s : Start) → 2 * (s.args.f.w * s.args.f.h) + 2 * (s.args.p.w * s.args.p.h) ≤ room (described s.args.z)
 room_for s = planes_le (described s.args.z) s.args.f s.args.p s.requires.given.1.box s.requires.given.1.part

@@ -11,9 +11,7 @@ use Rattle.rules.specs.Count.{frame_comparisons}
 use Rattle.clearing.specs.Call.{shape_of}
 use Rattle.clearing.proofs.Grown.{grown_by, nested_grown, grown_entries, grown_bytes, given_after}
 use native.Mathlib.Omega.{arith}
-use borrow.Author.Rules.{rules}
 use Rattle.clearing.proofs.replace_whole.Goals as goal
-use Rattle.clearing.proofs.replace_whole.Goals.{After-refresh-arg-3-1, After-work-1}
 
 pub grow-o-requires : goal.grow-o-requires
 grow-o-requires c = c.requires.good_rect.0

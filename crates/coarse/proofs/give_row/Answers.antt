@@ -3,7 +3,6 @@ use mathlib.Core.Path.{◌≡◌, sym, ap, ◌∙◌}
 use Prim.Native.Nat.{ℕ, ◌+◌, ◌-◌, ◌*◌, ◌≤◌}
 use native.Mathlib.Omega.{arith}
 use lib.ListN.{get_or}
-use borrow.Author.Rules.{rules}
 use Rattle.rules.specs.declared.Rgb.{Rgb}
 use Rattle.rules.specs.Window.{Shown}
 use Rattle.planes.specs.Stage.{masked_at, box_pixels}
@@ -12,7 +11,7 @@ use Rattle.coarse.specs.Rows.{sample_of}
 use Rattle.coarse.proofs.Rows.{puts_as}
 use Rattle.coarse.proofs.Planes.{sampled_more}
 use Rattle.coarse.proofs.give_row.Goals as goal
-use Rattle.coarse.proofs.give_row.Goals.{After-row_start, After-struct_known-1, After-struct_known-2-1, After-work-1, Then-i-s}
+use Rattle.coarse.proofs.give_row.Goals.{After-struct_known-1}
 
 pub returns-then-i-s : goal.returns-then-i-s
 returns-then-i-s c l S was given =

@@ -14,9 +14,9 @@ use Rattle.columns.specs.Down.{RowIs, down_count}
 use Rattle.columns.proofs.Counted.{Counted, counted_none, counted_more, counted_all}
 use Rattle.coarse.specs.Rows.{least_along}
 use Rattle.coarse.proofs.Minima.{columns_start, ratio_le, sample_by}
-use Rattle.coarse.proofs.Going.{Going, samples_start, samples_end}
+use Rattle.coarse.proofs.Going.{samples_start, samples_end}
 use Rattle.coarse.proofs.prepare.Goals as goal
-use Rattle.coarse.proofs.prepare.Goals.{After-down-count, After-loop-i, After-out-1, After-out-in-loop-i-2-1, After-q-1, After-scales_of-by, After-take_row-count, After-work-1, At-loop-i}
+use Rattle.coarse.proofs.prepare.Goals.{After-down-count, After-take_row-count}
 
 pub scales_of-by-requires : goal.scales_of-by-requires
 scales_of-by-requires c = c.requires.given_view.light

@@ -1,15 +1,15 @@
 -- `coarse::ratio_row` meets its contract. The loop's invariant is the contract at x pixels. Assumes nothing.
 use mathlib.Core.Path.{◌≡◌, refl, ap, ◌∙◌}
 use mathlib.Core.Bool.{cond}
-use Prim.Native.Nat.{ℕ, ◌+◌, ◌-◌, ◌≤◌, ◌<◌}
+use Prim.Native.Nat.{ℕ, ◌+◌}
 use native.Mathlib.Omega.{arith}
-use lib.ListN.{length, length-set, get_or}
+use lib.ListN.{length-set}
 use Rattle.rules.specs.Transmission.{least_ratio}
 use Rattle.planes.specs.Stage.{seen_at, masked_at}
 use Rattle.coarse.specs.Rows.{ratio_at}
 use Rattle.coarse.proofs.Rows.{row_more}
 use Rattle.coarse.proofs.ratio_row.Goals as goal
-use Rattle.coarse.proofs.ratio_row.Goals.{After-loop-x, After-pixel_at, After-ratio_by}
+use Rattle.coarse.proofs.ratio_row.Goals.{After-ratio_by}
 
 pub loop-x-init : goal.loop-x-init
 loop-x-init c = (omega arith, refl, λ i h. absurd (omega arith))

@@ -1,13 +1,9 @@
 -- `coarse::ratio_row` meets its contract. The loop's invariant is the contract at x pixels. Assumes nothing.
-use mathlib.Core.Path.{◌≡◌, refl, ap, ◌∙◌}
-use mathlib.Core.Bool.{cond}
+use mathlib.Core.Path.{◌≡◌}
 use Prim.Native.Nat.{ℕ, ◌+◌, ◌-◌, ◌≤◌, ◌<◌}
-use native.Mathlib.Omega.{arith}
-use lib.ListN.{length, length-set, get_or}
-use Rattle.rules.specs.Transmission.{least_ratio}
-use Rattle.planes.specs.Stage.{seen_at, masked_at}
+use lib.ListN.{length, get_or}
+use Rattle.planes.specs.Stage.{masked_at}
 use Rattle.coarse.specs.Rows.{ratio_at}
-use Rattle.coarse.proofs.Rows.{row_more}
 use Rattle.coarse.proofs.ratio_row.Given as goal
 
 abbrev pub invariant-loop-x : goal.invariant-loop-x

@@ -1,18 +1,18 @@
 -- `coarse::sample_row` meets its contract. The loop's invariant is the contract at x pixels. Assumes nothing.
 use mathlib.Core.Path.{◌≡◌, refl, ap, ◌∙◌}
-use Prim.Native.Nat.{◌+◌, ◌-◌, ◌≤◌}
+use Prim.Native.Nat.{◌+◌, ◌≤◌}
 use native.Mathlib.Omega.{arith}
-use lib.ListN.{length, length-set, get_or}
+use lib.ListN.{length-set, get_or}
 use lib.IntN.{pos}
 use Rattle.rules.specs.Light.{guide}
 use Rattle.rules.specs.Window.{Shown}
 use Rattle.rules.specs.Transmission.{Sample}
 use Rattle.rules.proofs.Integers.{rd}
 use Rattle.planes.specs.Stage.{seen_at, masked_at, word_of, product_word, square_word}
-use Rattle.coarse.specs.Rows.{sample_of, SamplesPut}
+use Rattle.coarse.specs.Rows.{sample_of}
 use Rattle.coarse.proofs.Rows.{both_long, word_is, puts_none, puts_more}
 use Rattle.coarse.proofs.sample_row.Goals as goal
-use Rattle.coarse.proofs.sample_row.Goals.{After-loop-x, After-shared_slice_known-in-loop-x-1, After-shared_slice_known-in-loop-x-2-1, After-word_by-in-loop-x}
+use Rattle.coarse.proofs.sample_row.Goals.{After-shared_slice_known-in-loop-x-1, After-shared_slice_known-in-loop-x-2-1, After-word_by-in-loop-x}
 
 pub loop-x-init : goal.loop-x-init
 loop-x-init c = (omega arith, refl, puts_none _ _ _ _)

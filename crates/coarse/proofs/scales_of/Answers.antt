@@ -1,7 +1,5 @@
 -- `coarse::scales_of` meets its contract: a later scale leaves the earlier ones. Assumes nothing.
-use borrow.Author.Rules.{rules}
 use Rattle.coarse.proofs.scales_of.Goals as goal
-use Rattle.coarse.proofs.scales_of.Goals.{After-struct_known-3-1}
 
 pub returns : goal.returns
 returns c =

@@ -1,11 +1,9 @@
 -- `coarse::take_row` meets its contract: past the last row there is nothing to show and nothing to compare. Assumes nothing.
 use mathlib.Core.Path.{◌∙◌}
 use native.Mathlib.Omega.{arith}
-use borrow.Author.Rules.{rules}
 use Rattle.columns.proofs.Counted.{along_row, along_none}
 use Rattle.coarse.proofs.Minima.{along_is}
 use Rattle.coarse.proofs.take_row.Goals as goal
-use Rattle.coarse.proofs.take_row.Goals.{After-ratio_row-arg-1, After-row_start, After-shrink-arg-3-1, After-slice_known-7-1, Then-v-i}
 
 pub returns-then-v-i : goal.returns-then-v-i
 returns-then-v-i c =

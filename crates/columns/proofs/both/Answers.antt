@@ -1,13 +1,10 @@
 -- `columns::both` meets its contract. The invariant: the first x entries are the lesser ones, with a comparison each. Assumes nothing.
 use mathlib.Core.Path.{◌≡◌, refl}
-use Prim.Native.Nat.{◌+◌, ◌-◌, ◌≤◌, min, zero-le}
+use Prim.Native.Nat.{zero-le}
 use native.Mathlib.Omega.{arith}
-use borrow.Author.Rules.{rules}
-use lib.ListN.{length, length-set}
-use Rattle.windows.specs.Line.{entry, Written}
+use lib.ListN.{length-set}
 use Rattle.windows.proofs.Lines.{written_none, written_more}
 use Rattle.columns.proofs.both.Goals as goal
-use Rattle.columns.proofs.both.Goals.{After-lesser_u16, After-loop-x, After-shared_slice_known-2-1, After-shared_slice_known-in-loop-x-1, After-shared_slice_known-in-loop-x-1-unread, After-shared_slice_known-in-loop-x-2-1, After-shared_slice_known-in-loop-x-2-1-unread, In-loop-x}
 
 pub loop-x-init : goal.loop-x-init
 loop-x-init c = (omega arith, refl, refl, written_none _ _ _)

@@ -1,11 +1,8 @@
 -- `columns::both` meets its contract. The invariant: the first x entries are the lesser ones, with a comparison each. Assumes nothing.
-use mathlib.Core.Path.{◌≡◌, refl}
-use Prim.Native.Nat.{◌+◌, ◌-◌, ◌≤◌, min, zero-le}
-use native.Mathlib.Omega.{arith}
-use borrow.Author.Rules.{rules}
-use lib.ListN.{length, length-set}
+use mathlib.Core.Path.{◌≡◌}
+use Prim.Native.Nat.{◌+◌, ◌-◌, ◌≤◌, min}
+use lib.ListN.{length}
 use Rattle.windows.specs.Line.{entry, Written}
-use Rattle.windows.proofs.Lines.{written_none, written_more}
 use Rattle.columns.proofs.both.Given as goal
 
 abbrev pub invariant-loop-x : goal.invariant-loop-x

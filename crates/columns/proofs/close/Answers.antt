@@ -1,10 +1,8 @@
 -- `columns::close` meets its contract, a return for each case. Assumes nothing.
 use mathlib.Core.Path.{refl}
 use native.Mathlib.Omega.{arith}
-use borrow.Author.Rules.{rules}
 use Rattle.columns.proofs.Stores.{row_apart}
 use Rattle.columns.proofs.close.Goals as goal
-use Rattle.columns.proofs.close.Goals.{After-fold-arg-1, After-fold-arg-then-v-h-1, After-slice_known-1, After-slice_known-then-j-k-1, After-slice_known-then-v-h-1, Else-j-k, Else-v-h}
 
 pub fold-requires : goal.fold-requires
 fold-requires c = omega (arith, c.requires.5, row_apart c.args.n c.args.j c.args.k c.requires.2)

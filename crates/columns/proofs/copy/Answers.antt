@@ -1,12 +1,11 @@
 -- `columns::copy` meets its contract. The invariant: the first x entries are copied. Assumes nothing.
 use mathlib.Core.Path.{◌≡◌, refl}
-use Prim.Native.Nat.{◌+◌, ◌-◌, ◌≤◌}
+use Prim.Native.Nat.{◌+◌}
 use native.Mathlib.Omega.{arith}
-use lib.ListN.{length, length-set}
-use Rattle.windows.specs.Line.{entry, Laid}
+use lib.ListN.{length-set}
+use Rattle.windows.specs.Line.{entry}
 use Rattle.windows.proofs.Lines.{laid_none, laid_more}
 use Rattle.columns.proofs.copy.Goals as goal
-use Rattle.columns.proofs.copy.Goals.{After-loop-x, After-shared_slice_known-1, In-loop-x, Start}
 
 pub loop-x-init : goal.loop-x-init
 loop-x-init c = (omega arith, refl, laid_none (λ i. entry c.args.row.now (c.args.at + i)) _ _)

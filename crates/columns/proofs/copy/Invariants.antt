@@ -1,10 +1,8 @@
 -- `columns::copy` meets its contract. The invariant: the first x entries are copied. Assumes nothing.
-use mathlib.Core.Path.{◌≡◌, refl}
+use mathlib.Core.Path.{◌≡◌}
 use Prim.Native.Nat.{◌+◌, ◌-◌, ◌≤◌}
-use native.Mathlib.Omega.{arith}
-use lib.ListN.{length, length-set}
+use lib.ListN.{length}
 use Rattle.windows.specs.Line.{entry, Laid}
-use Rattle.windows.proofs.Lines.{laid_none, laid_more}
 use Rattle.columns.proofs.copy.Given as goal
 
 abbrev pub invariant-loop-x : goal.invariant-loop-x

@@ -1,10 +1,8 @@
 -- `columns::down` meets its contract: a step with a row, or one without. Assumes nothing.
 use Prim.Native.Nat.{◌+◌, ◌-◌, ◌*◌}
-use borrow.Author.Rules.{rules}
 use Rattle.columns.specs.Down.{Rested}
 use Rattle.columns.proofs.Steps.{take_state, take_mins, take_count, rest_state, rest_mins, rest_count}
 use Rattle.columns.proofs.down.Goals as goal
-use Rattle.columns.proofs.down.Goals.{After-rest-arg-1, After-slice_known-3-1, After-slice_known-4-1, After-slice_known-then-v-h-3-1, After-take-arg-then-v-h-2-1, Else-v-h}
 
 pub returns-then-v-h : goal.returns-then-v-h
 returns-then-v-h c =

@@ -1,13 +1,11 @@
 -- `columns::fold` meets its contract. The invariant: the rows from j on are folded, with n comparisons for each before the last. Assumes nothing.
 use mathlib.Core.Path.{◌≡◌, refl, ◌∙◌}
-use Prim.Native.Nat.{suc, ◌+◌, ◌-◌, ◌*◌, ◌≤◌}
+use Prim.Native.Nat.{suc, ◌+◌, ◌-◌, ◌*◌}
 use native.Mathlib.Nat.{mul_comm, suc-mul}
 use native.Mathlib.Omega.{arith}
-use lib.ListN.{length}
-use Rattle.columns.specs.Down.{Folded}
 use Rattle.columns.proofs.Stores.{row_apart, folded_none, folded_more}
 use Rattle.columns.proofs.fold.Goals as goal
-use Rattle.columns.proofs.fold.Goals.{After-fold_row-arg-1, After-loop-j, After-slice_known-1, After-slice_known-in-loop-j-1, In-loop-j}
+use Rattle.columns.proofs.fold.Goals.{In-loop-j}
 
 pub loop-j-init : goal.loop-j-init
 loop-j-init c = (omega arith, omega arith, refl, folded_none _ _ _)

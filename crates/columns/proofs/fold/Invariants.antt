@@ -1,11 +1,8 @@
 -- `columns::fold` meets its contract. The invariant: the rows from j on are folded, with n comparisons for each before the last. Assumes nothing.
-use mathlib.Core.Path.{◌≡◌, refl, ◌∙◌}
-use Prim.Native.Nat.{suc, ◌+◌, ◌-◌, ◌*◌, ◌≤◌}
-use native.Mathlib.Nat.{mul_comm, suc-mul}
-use native.Mathlib.Omega.{arith}
+use mathlib.Core.Path.{◌≡◌}
+use Prim.Native.Nat.{◌+◌, ◌*◌, ◌≤◌}
 use lib.ListN.{length}
 use Rattle.columns.specs.Down.{Folded}
-use Rattle.columns.proofs.Stores.{row_apart, folded_none, folded_more}
 use Rattle.columns.proofs.fold.Given as goal
 
 abbrev pub invariant-loop-j : goal.invariant-loop-j

@@ -1,13 +1,12 @@
 -- `columns::fold_row` meets its contract. The invariant: the first x entries of the row are the lesser ones, with a comparison each. Assumes nothing.
 use mathlib.Core.Path.{◌≡◌, refl, ◌∙◌}
-use Prim.Native.Nat.{ℕ, ◌+◌, ◌-◌, ◌≤◌, min}
+use Prim.Native.Nat.{ℕ, ◌+◌, min}
 use native.Mathlib.Omega.{arith}
-use borrow.Author.Rules.{rules}
-use lib.ListN.{length, length-set}
-use Rattle.windows.specs.Line.{entry, Laid}
+use lib.ListN.{length-set}
+use Rattle.windows.specs.Line.{entry}
 use Rattle.windows.proofs.Lines.{laid_none, laid_more}
 use Rattle.columns.proofs.fold_row.Goals as goal
-use Rattle.columns.proofs.fold_row.Goals.{After-lesser_u16, After-loop-x, After-slice_known-1, After-slice_known-in-loop-x-1, After-slice_known-in-loop-x-1-unread, After-slice_known-in-loop-x-2-1, After-slice_known-in-loop-x-2-1-unread, In-loop-x, Start}
+use Rattle.columns.proofs.fold_row.Goals.{Start}
 
 -- entry x of the folded row
 abbrev lesser : Start → ℕ → ℕ

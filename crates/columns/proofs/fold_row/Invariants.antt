@@ -1,11 +1,8 @@
 -- `columns::fold_row` meets its contract. The invariant: the first x entries of the row are the lesser ones, with a comparison each. Assumes nothing.
-use mathlib.Core.Path.{◌≡◌, refl, ◌∙◌}
-use Prim.Native.Nat.{ℕ, ◌+◌, ◌-◌, ◌≤◌, min}
-use native.Mathlib.Omega.{arith}
-use borrow.Author.Rules.{rules}
-use lib.ListN.{length, length-set}
+use mathlib.Core.Path.{◌≡◌}
+use Prim.Native.Nat.{◌+◌, ◌-◌, ◌≤◌, min}
+use lib.ListN.{length}
 use Rattle.windows.specs.Line.{entry, Laid}
-use Rattle.windows.proofs.Lines.{laid_none, laid_more}
 use Rattle.columns.proofs.fold_row.Given as goal
 
 abbrev pub invariant-loop-x : goal.invariant-loop-x

@@ -2,12 +2,11 @@
 use mathlib.Core.Path.{refl, sym}
 use Prim.Native.Nat.{◌+◌, ◌<◌, zero-le}
 use native.Mathlib.Omega.{arith}
-use borrow.Author.Rules.{rules}
 use Rattle.windows.proofs.Cuts.{ne_lt}
 use Rattle.windows.proofs.Lines.{copied_all}
 use Rattle.columns.proofs.Stores.{row_apart}
 use Rattle.columns.proofs.give.Goals as goal
-use Rattle.columns.proofs.give.Goals.{After-both-arg-1, After-copy-arg-1, After-copy-arg-then-j-k-1, After-slice_known-2-1, After-slice_known-then-j-k-1, After-slice_known-then-v-k-1, Else-j-k, Else-v-k}
+use Rattle.columns.proofs.give.Goals.{Else-j-k}
 
 pub returns-then-v-k : goal.returns-then-v-k
 returns-then-v-k c =

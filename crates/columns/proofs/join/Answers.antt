@@ -3,11 +3,9 @@ use mathlib.Core.Path.{◌≡◌}
 use Prim.Native.Nat.{min, zero-le}
 use native.Mathlib.Nat.{mul-zero, mul-one}
 use native.Mathlib.Omega.{arith}
-use borrow.Author.Rules.{rules}
 use Rattle.windows.proofs.Cuts.{pos_of}
 use Rattle.windows.proofs.Lines.{copied_all}
 use Rattle.columns.proofs.join.Goals as goal
-use Rattle.columns.proofs.join.Goals.{After-copy-arg-1, After-extend-arg-1, After-slice_known-2-1, After-slice_known-then-j-eq0-1}
 
 pub returns-then-j-eq0 : goal.returns-then-j-eq0
 returns-then-j-eq0 c =

@@ -2,13 +2,12 @@
 use mathlib.Core.Path.{sym, ◌∙◌}
 use Prim.Native.Nat.{◌+◌, ◌-◌, ◌*◌, ◌≤◌, ◌<◌, zero-le}
 use native.Mathlib.Omega.{arith}
-use borrow.Author.Rules.{rules}
 use Rattle.windows.proofs.Cuts.{ne_lt, start_le, lt_start}
 use Rattle.windows.proofs.Lines.{copied, copied_all}
 use Rattle.columns.proofs.Stores.{row_apart}
 use Rattle.columns.proofs.Steps.{rest_block, rest_part, rest_two}
 use Rattle.columns.proofs.rest.Goals as goal
-use Rattle.columns.proofs.rest.Goals.{After-both-arg-1, After-copy-arg-1, After-copy-arg-then-c-a-1, After-slice_known-1, After-slice_known-2-1, After-slice_known-then-a-c-1, After-slice_known-then-c-a-1, Else-c-a, Start, Then-c-a}
+use Rattle.columns.proofs.rest.Goals.{Else-c-a, Start, Then-c-a}
 
 -- a block has a row
 some : (c : Start) → 0 < c.args.k

@@ -2,13 +2,12 @@
 use Prim.Native.Nat.{◌+◌, ◌*◌, ◌%◌, ◌≤◌, ◌<◌}
 use native.Mathlib.Nat.{mod-lt}
 use native.Mathlib.Omega.{arith}
-use borrow.Author.Rules.{rules}
 use Rattle.columns.specs.Down.{Taken}
 use Rattle.windows.proofs.Cuts.{start_mod}
 use Rattle.columns.proofs.Stores.{row_apart}
 use Rattle.columns.proofs.Steps.{taken, taken_few}
 use Rattle.columns.proofs.take.Goals as goal
-use Rattle.columns.proofs.take.Goals.{After-close-arg-1, After-close-c, After-copy-arg-1, After-give-arg-1, After-join-arg-1, After-slice_known-3-1, After-slice_known-7-1, Start}
+use Rattle.columns.proofs.take.Goals.{After-close-c, Start}
 
 -- the row's place in its block
 place : (c : Start) → c.args.v % c.args.k < c.args.k

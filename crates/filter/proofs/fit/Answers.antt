@@ -1,15 +1,15 @@
 -- `filter::fit` meets its contract. Before each row the loop's invariant is `Going`. Assumes nothing.
-use Prim.Native.Nat.{◌+◌, ◌-◌, ◌*◌, ◌≤◌, ◌<◌}
+use Prim.Native.Nat.{◌+◌, ◌*◌, ◌≤◌, ◌<◌}
 use mathlib.Core.Path.{◌∙◌, refl, sym}
 use native.Mathlib.Omega.{arith}
 use Rattle.planes.specs.Stage.{Sampled, box_seen}
 use Rattle.planes.proofs.Shown.{row_end, box_area, box_short}
 use Rattle.sums.proofs.Lent.{zeros}
 use Rattle.sizes.proofs.Counts.{table_none}
-use Rattle.filter.proofs.Going.{Going, going_start, going_more, going_end, going_sampled, Own, own, Summed, Rooms, row_in}
+use Rattle.filter.proofs.Going.{going_start, going_more, going_end, going_sampled, Own, own, Summed, Rooms, row_in}
 use Rattle.filter.proofs.Samples.{first_summable, second_summable}
 use Rattle.filter.proofs.fit.Goals as goal
-use Rattle.filter.proofs.fit.Goals.{After-begin-arg-1, After-loop-y, After-over-1, After-over-in-loop-y-2-1, After-own_place, After-products-1, After-two-1, After-two-in-loop-y-1, After-work-1, In-loop-y}
+use Rattle.filter.proofs.fit.Goals.{After-own_place, After-two-in-loop-y-1, In-loop-y}
 
 pub overflow_mul-plane : goal.overflow_mul-plane
 overflow_mul-plane c = omega (arith, c.requires.in_plane.0.area)

@@ -1,13 +1,7 @@
 -- `filter::fit` meets its contract. Before each row the loop's invariant is `Going`. Assumes nothing.
-use Prim.Native.Nat.{◌+◌, ◌-◌, ◌*◌, ◌≤◌, ◌<◌}
-use mathlib.Core.Path.{◌∙◌, refl, sym}
-use native.Mathlib.Omega.{arith}
-use Rattle.planes.specs.Stage.{Sampled, box_seen}
-use Rattle.planes.proofs.Shown.{row_end, box_area, box_short}
-use Rattle.sums.proofs.Lent.{zeros}
-use Rattle.sizes.proofs.Counts.{table_none}
-use Rattle.filter.proofs.Going.{Going, going_start, going_more, going_end, going_sampled, Own, own, Summed, Rooms, row_in}
-use Rattle.filter.proofs.Samples.{first_summable, second_summable}
+use Prim.Native.Nat.{◌-◌}
+use Rattle.planes.specs.Stage.{box_seen}
+use Rattle.filter.proofs.Going.{Going, Rooms}
 use Rattle.filter.proofs.fit.Given as goal
 
 abbrev pub invariant-loop-y : goal.invariant-loop-y

@@ -1,8 +1,6 @@
 -- `filter::fit_pixel` meets its contract. Assumes nothing.
-use borrow.Author.Rules.{rules}
 use Rattle.filter.proofs.Rows.{pixel_set, pixel_small}
 use Rattle.filter.proofs.fit_pixel.Goals as goal
-use Rattle.filter.proofs.fit_pixel.Goals.{After-work-1}
 
 pub slope-a-requires : goal.slope-a-requires
 slope-a-requires c = (c.requires.2, c.requires.4, c.requires.5)

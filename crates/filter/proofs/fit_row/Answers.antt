@@ -1,14 +1,12 @@
 -- `filter::fit_row` meets its contract. The loop's invariant is the contract at i pixels. Assumes nothing.
-use Prim.Native.Nat.{◌+◌, ◌-◌, ◌≤◌, ◌<◌}
+use Prim.Native.Nat.{◌+◌, ◌<◌}
 use mathlib.Core.Path.{◌≡◌, refl, ◌∙◌}
-use mathlib.Core.Logic.{⊎_elim}
 use native.Mathlib.Omega.{arith}
 use lib.ListN.{length}
-use borrow.Author.Rules.{rules}
-use Rattle.filter.specs.Row.{RowIn, flat_line, word_line, row_line, RowLines}
+use Rattle.filter.specs.Row.{RowIn, flat_line, row_line, RowLines}
 use Rattle.filter.proofs.Rows.{row_none, row_turn, hidden_line, u_cast, v_cast, read_moments, read_line}
 use Rattle.filter.proofs.fit_row.Goals as goal
-use Rattle.filter.proofs.fit_row.Goals.{then-mask-at-eq0, else-mask-at-eq0, After-loop-i, After-shared_slice_known-else-mask-at-eq0-2-1, In-loop-i, Joined-mask-at-eq0}
+use Rattle.filter.proofs.fit_row.Goals.{then-mask-at-eq0, else-mask-at-eq0, In-loop-i, Joined-mask-at-eq0}
 
 -- what the row is given
 given : (t : In-loop-i) → let a = t.args in
@@ -82,12 +80,12 @@ more c =
     let F = row_line a.products.now a.squares.now a.ns.now a.e a.mask.now a.at in
     let turn = row_turn a.work.now w.work a.slopes a.offsets a.n w.i F g.apart (omega (arith, g.room, w.invariant.1)) (less (goal.at.Joined-mask-at-eq0 c).In-loop-i) w.invariant.2 c.if-mask-at-eq0.work in
     elim c.if-mask-at-eq0.branch [
-      then-mask-at-eq0 k ↦
-        turn flat_line (hidden_line a.products.now a.squares.now a.ns.now a.e a.mask.now a.at w.i (omega (arith, k.if-mask-at-eq0.true))) (k.work-is ∙ k.put_line.ensures)
-        (omega arith, omega arith)
-    | else-mask-at-eq0 k ↦
-        turn _ (read_line g w.i (less (goal.at.Joined-mask-at-eq0 c).In-loop-i) (λ z. omega (arith, k.if-mask-at-eq0.false)) a.e) (k.work-is ∙ k.fit_pixel.ensures.line)
-        k.fit_pixel.ensures.small
+      | then-mask-at-eq0 k ↦
+          turn flat_line (hidden_line a.products.now a.squares.now a.ns.now a.e a.mask.now a.at w.i (omega (arith, k.if-mask-at-eq0.true))) (k.work-is ∙ k.put_line.ensures)
+          (omega arith, omega arith)
+      | else-mask-at-eq0 k ↦
+          turn _ (read_line g w.i (less (goal.at.Joined-mask-at-eq0 c).In-loop-i) (λ z. omega (arith, k.if-mask-at-eq0.false)) a.e) (k.work-is ∙ k.fit_pixel.ensures.line)
+          k.fit_pixel.ensures.small
     ]
 
 pub loop-i-preserved : goal.loop-i-preserved

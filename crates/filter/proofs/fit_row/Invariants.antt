@@ -1,12 +1,8 @@
 -- `filter::fit_row` meets its contract. The loop's invariant is the contract at i pixels. Assumes nothing.
-use Prim.Native.Nat.{◌+◌, ◌-◌, ◌≤◌, ◌<◌}
-use mathlib.Core.Path.{◌≡◌, refl, ◌∙◌}
-use mathlib.Core.Logic.{⊎_elim}
-use native.Mathlib.Omega.{arith}
+use Prim.Native.Nat.{◌-◌, ◌≤◌}
+use mathlib.Core.Path.{◌≡◌}
 use lib.ListN.{length}
-use borrow.Author.Rules.{rules}
-use Rattle.filter.specs.Row.{RowIn, flat_line, word_line, row_line, RowLines}
-use Rattle.filter.proofs.Rows.{row_none, row_turn, hidden_line, u_cast, v_cast, read_moments, read_line}
+use Rattle.filter.specs.Row.{row_line, RowLines}
 use Rattle.filter.proofs.fit_row.Given as goal
 
 abbrev pub invariant-loop-i : goal.invariant-loop-i

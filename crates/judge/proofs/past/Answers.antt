@@ -5,7 +5,6 @@ use borrow.Author.Tests.{lt-ltb}
 use native.Mathlib.Omega.{arith}
 use Rattle.judge.proofs.Laws.{past_by}
 use Rattle.judge.proofs.past.Goals as goal
-use Rattle.judge.proofs.past.Goals.{Else-end-at, Then-end-at}
 
 pub returns-then-end-at : goal.returns-then-end-at
 returns-then-end-at c = let s = c.args in sym (lt-ltb s.end (s.at + s.n) (omega arith))

@@ -1,7 +1,6 @@
 -- `judge::wrong_band` meets its contract. Assumes nothing.
 use Rattle.rules.specs.Refusals.{bad_band}
 use Rattle.judge.proofs.wrong_band.Goals as goal
-use Rattle.judge.proofs.wrong_band.Goals.{After-either, After-struct_known-1}
 
 pub either-requires : goal.either-requires
 either-requires c = tt

@@ -2,16 +2,14 @@
 -- Assumes nothing.
 use mathlib.Core.Path.{◌≡◌, refl, sym, ◌∙◌}
 use mathlib.Core.Bool.{false, ◌||◌}
-use Prim.Native.Nat.{◌≤◌, ◌<◌, ◌-◌}
+use Prim.Native.Nat.{◌<◌}
 use lib.Dec.{ltb}
 use lib.ListN.{length}
 use native.Mathlib.Omega.{arith}
-use borrow.Author.Rules.{rules}
 use Rattle.rules.specs.Refusals.{bad_entries}
-use Rattle.rules.proofs.Front.{Front, front_none, front_more, front_all}
+use Rattle.rules.proofs.Front.{front_none, front_more, front_all}
 use Rattle.judge.proofs.Laws.{or_assoc, or_false}
 use Rattle.judge.proofs.wrong_entries.Goals as goal
-use Rattle.judge.proofs.wrong_entries.Goals.{After-either-bad, After-loop-i, After-shared_slice_known-1, After-shared_slice_known-in-loop-i-1, After-shared_slice_known-in-loop-i-1-unread, In-loop-i}
 
 pub loop-i-init : goal.loop-i-init
 loop-i-init c = (omega arith, front_none ◌||◌ (ltb 10000) false c.args.map.now refl)

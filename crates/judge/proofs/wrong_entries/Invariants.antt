@@ -1,15 +1,10 @@
 -- `judge::wrong_entries` meets its contract. The loop's invariant: what is found so far, or what is left to look at, is what the whole map has.
 -- Assumes nothing.
-use mathlib.Core.Path.{◌≡◌, refl, sym, ◌∙◌}
 use mathlib.Core.Bool.{false, ◌||◌}
-use Prim.Native.Nat.{◌≤◌, ◌<◌, ◌-◌}
+use Prim.Native.Nat.{◌≤◌, ◌-◌}
 use lib.Dec.{ltb}
 use lib.ListN.{length}
-use native.Mathlib.Omega.{arith}
-use borrow.Author.Rules.{rules}
-use Rattle.rules.specs.Refusals.{bad_entries}
-use Rattle.rules.proofs.Front.{Front, front_none, front_more, front_all}
-use Rattle.judge.proofs.Laws.{or_assoc, or_false}
+use Rattle.rules.proofs.Front.{Front}
 use Rattle.judge.proofs.wrong_entries.Given as goal
 
 abbrev pub invariant-loop-i : goal.invariant-loop-i

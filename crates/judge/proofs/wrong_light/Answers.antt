@@ -1,7 +1,6 @@
 -- `judge::wrong_light` meets its contract. Assumes nothing.
 use Rattle.rules.specs.Refusals.{bad_light}
 use Rattle.judge.proofs.wrong_light.Goals as goal
-use Rattle.judge.proofs.wrong_light.Goals.{After-either-2, After-struct_known-2-1, After-struct_known-3-1}
 
 pub either-requires : goal.either-requires
 either-requires c = tt

@@ -1,9 +1,7 @@
 -- `judge::wrong_mask` meets its contract. Assumes nothing.
 use mathlib.Core.Path.{refl}
 use Rattle.rules.specs.Refusals.{bad_mask}
-use borrow.Author.Rules.{rules}
 use Rattle.judge.proofs.wrong_mask.Goals as goal
-use Rattle.judge.proofs.wrong_mask.Goals.{After-struct_known-1}
 
 pub returns : goal.returns
 unfolding bad_mask

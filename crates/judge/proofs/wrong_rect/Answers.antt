@@ -1,7 +1,6 @@
 -- `judge::wrong_rect` meets its contract. Assumes nothing.
 use Rattle.rules.specs.Refusals.{bad_rect}
 use Rattle.judge.proofs.wrong_rect.Goals as goal
-use Rattle.judge.proofs.wrong_rect.Goals.{After-either, After-either-2, After-either-empty, After-past, After-past-2, After-struct_known-2-1}
 
 pub either-empty-requires : goal.either-empty-requires
 either-empty-requires c = tt

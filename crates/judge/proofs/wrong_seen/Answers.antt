@@ -1,16 +1,13 @@
 -- `judge::wrong_seen` meets its contract. The loop's invariant: no pixel so far is seen, so the whole is judged by what is left. Assumes nothing.
-use mathlib.Core.Path.{◌≡◌, refl, sym, ◌∙◌}
+use mathlib.Core.Path.{◌≡◌, refl}
 use mathlib.Core.Bool.{true, false, ◌&&◌}
-use Prim.Native.Nat.{ℕ, ◌≤◌, ◌<◌, ◌-◌}
-use lib.Dec.{eqb}
 use lib.ListN.{length, get_or}
 use native.Mathlib.Omega.{arith}
 use borrow.Author.Tests.{ne_eqb, eq-eqb}
 use Rattle.rules.specs.Refusals.{bad_seen}
-use Rattle.rules.proofs.Front.{Front, front_none, front_more, front_all}
+use Rattle.rules.proofs.Front.{front_none, front_more, front_all}
 use Rattle.judge.proofs.Laws.{and_assoc, hides}
 use Rattle.judge.proofs.wrong_seen.Goals as goal
-use Rattle.judge.proofs.wrong_seen.Goals.{After-loop-i, After-shared_slice_known-1-unread, Else-mask-i-ne0, Start, Then-mask-i-ne0}
 
 pub loop-i-init : goal.loop-i-init
 loop-i-init c = (omega arith, front_none ◌&&◌ hides true c.args.mask.now refl)

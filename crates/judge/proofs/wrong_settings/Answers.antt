@@ -1,7 +1,6 @@
 -- `judge::wrong_settings` meets its contract. Assumes nothing.
 use Rattle.rules.specs.Refusals.{bad_settings}
 use Rattle.judge.proofs.wrong_settings.Goals as goal
-use Rattle.judge.proofs.wrong_settings.Goals.{After-either, After-either-first, After-either-radii, After-either-second, After-either-third, After-outside, After-outside-2, After-outside-3, After-outside-4, After-struct_known-2-1}
 
 pub either-radii-requires : goal.either-radii-requires
 either-radii-requires c = tt

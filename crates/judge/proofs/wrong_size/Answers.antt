@@ -9,7 +9,7 @@ use Rattle.rules.specs.declared.Size.{Size}
 use Rattle.rules.specs.Refusals.{out, bad_size}
 use Rattle.rules.proofs.Good.{neither, between}
 use Rattle.judge.proofs.wrong_size.Goals as goal
-use Rattle.judge.proofs.wrong_size.Goals.{After-either, After-outside, After-outside-2, Else-either, Start, Then-either}
+use Rattle.judge.proofs.wrong_size.Goals.{After-either}
 
 abbrev sides : Size → Bool
 sides z = out 1 1024 z.w || out 1 1024 z.h

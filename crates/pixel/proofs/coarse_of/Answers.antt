@@ -2,7 +2,6 @@
 use Prim.Native.Nat.{◌≤◌, ◌*◌}
 use native.Mathlib.Nat.{mul-le-mul}
 use native.Mathlib.Omega.{arith}
-use borrow.Author.Rules.{rules}
 use Rattle.pixel.proofs.coarse_of.Goals as goal
 use Rattle.pixel.proofs.coarse_of.Goals.{Start}
 

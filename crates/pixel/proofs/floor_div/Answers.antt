@@ -2,13 +2,12 @@
 use mathlib.Core.Path.{◌≡◌, refl, ◌∙◌}
 use native.Mathlib.Nat.{div-le_self}
 use native.Mathlib.Omega.{arith}
-use borrow.Author.Rules.{rules}
 use lib.IntN.{pos}
 use lib.Signed.{lt_z}
 use Rattle.rules.proofs.Integers.{back, rd}
 use Rattle.pixel.proofs.Signs.{divided}
 use Rattle.pixel.proofs.floor_div.Goals as goal
-use Rattle.pixel.proofs.floor_div.Goals.{After-signed, After-size_of, Start}
+use Rattle.pixel.proofs.floor_div.Goals.{Start}
 
 p_back : (s : Start) → rd s.args.p ≡ s.args.p
 p_back s = back s.args.p s.ranges.p

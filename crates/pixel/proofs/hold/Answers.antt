@@ -3,7 +3,6 @@ use mathlib.Core.Path.{◌≡◌, refl, ◌∙◌}
 use mathlib.Core.Bool.{true, false, true≢false}
 use Prim.Native.Nat.{ℕ, min}
 use native.Mathlib.Nat.{not-suc-le-zero}
-use borrow.Author.Rules.{rules}
 use borrow.Author.Tests.{ltb-true}
 use lib.IntN.{ℤ, pos, negsuc, nat_abs}
 use lib.Signed.{lt_z}
@@ -13,7 +12,7 @@ use Rattle.rules.specs.Transmission.{held}
 use Rattle.rules.proofs.Integers.{back}
 use Rattle.pixel.proofs.Signs.{plain}
 use Rattle.pixel.proofs.hold.Goals as goal
-use Rattle.pixel.proofs.hold.Goals.{After-lesser_u64, Else-v-lt0, Start, Then-v-lt0}
+use Rattle.pixel.proofs.hold.Goals.{Else-v-lt0, Start}
 
 below : (top : ℕ) (v : ℤ) → lt_z v (pos 0) ≡ true → 0 ≡ held top v
 below top (pos a) t = absurd (not-suc-le-zero (ltb-true a 0 t))

@@ -1,9 +1,7 @@
 -- `pixel::is_smaller` meets its contract: what its test tells of the products. Assumes nothing.
 use native.Mathlib.Omega.{arith}
-use borrow.Author.Rules.{rules}
 use borrow.Author.Tests.{ltb-true, ltb-false}
 use Rattle.pixel.proofs.is_smaller.Goals as goal
-use Rattle.pixel.proofs.is_smaller.Goals.{After-product, After-product-2, Start}
 
 pub returns : goal.returns
 returns c =

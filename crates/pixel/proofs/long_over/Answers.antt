@@ -3,7 +3,6 @@ use mathlib.Core.Path.{◌≡◌, ◌∙◌}
 use Prim.Native.Nat.{ℕ, ◌+◌, ◌-◌, ◌*◌, ◌/◌, ◌%◌, ◌^◌, ◌≤◌, ◌<◌}
 use native.Mathlib.Nat.{div-lt_iff_lt-mul}
 use native.Mathlib.Omega.{arith}
-use borrow.Author.Rules.{rules}
 use Rattle.pixel.proofs.Scaled.{inverse_fits, inverse_is, left_le, low_lt, long}
 use Rattle.pixel.proofs.long_over.Goals as goal
 use Rattle.pixel.proofs.long_over.Goals.{After-over, After-over-q, Start}

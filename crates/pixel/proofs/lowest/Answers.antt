@@ -2,7 +2,7 @@
 use mathlib.Core.Path.{◌≡◌}
 use Rattle.pixel.proofs.Signs.{rd32, rd32_is}
 use Rattle.pixel.proofs.lowest.Goals as goal
-use Rattle.pixel.proofs.lowest.Goals.{Else-v-lt0, Start, Then-v-lt0}
+use Rattle.pixel.proofs.lowest.Goals.{Start}
 
 v_back : (s : Start) → rd32 s.args.v ≡ s.args.v
 v_back s = rd32_is s.args.v s.ranges.v

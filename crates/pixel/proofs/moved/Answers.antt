@@ -2,14 +2,13 @@
 use mathlib.Core.Path.{◌≡◌, ap₂, ◌∙◌}
 use Prim.Native.Nat.{◌≤◌}
 use native.Mathlib.Omega.{arith}
-use borrow.Author.Rules.{rules}
 use lib.IntN.{ℤ, pos, nat_abs, ◌+ℤ◌, ◌-ℤ◌}
 use mir.Syntax.{w32}
 use mir.Val.{SFits}
 use Rattle.rules.proofs.Integers.{nat_abs-+, nat_abs--}
 use Rattle.pixel.proofs.Signs.{rd32, rd32_is, fits32}
 use Rattle.pixel.proofs.moved.Goals as goal
-use Rattle.pixel.proofs.moved.Goals.{Else-below, Start, Then-below}
+use Rattle.pixel.proofs.moved.Goals.{Start}
 
 module _ (s : Start) where
   abbrev a : ℤ

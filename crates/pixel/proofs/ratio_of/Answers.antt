@@ -2,10 +2,9 @@
 use Prim.Native.Nat.{ℕ, ◌*◌, ◌/◌, ◌≤◌}
 use mathlib.Core.Path.{ap, ◌∙◌}
 use native.Mathlib.Omega.{arith}
-use borrow.Author.Rules.{rules}
 use Rattle.pixel.proofs.Fractions.{ratio_fits, ratio_scaled}
 use Rattle.pixel.proofs.ratio_of.Goals as goal
-use Rattle.pixel.proofs.ratio_of.Goals.{After-lesser_u32, Start}
+use Rattle.pixel.proofs.ratio_of.Goals.{After-lesser_u32}
 
 small : (c : After-lesser_u32) → c.lesser_u32.result * c.args.k ≤ 655360255
 small c = let d = c.args in rw c.lesser_u32.ensures (ratio_fits d.i d.a d.k c.requires)

@@ -1,11 +1,9 @@
 -- `pixel::reciprocal` meets its contract. Assumes nothing.
 use native.Mathlib.Nat.{div-le_self}
 use native.Mathlib.Omega.{arith}
-use borrow.Author.Rules.{rules}
 use Rattle.pixel.specs.Over.{parts}
 use Rattle.pixel.proofs.Scaled.{over}
 use Rattle.pixel.proofs.reciprocal.Goals as goal
-use Rattle.pixel.proofs.reciprocal.Goals.{Start}
 
 pub overflow_add-result : goal.overflow_add-result
 overflow_add-result c = omega (arith, div-le_self parts c.args.n)

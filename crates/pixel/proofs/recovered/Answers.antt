@@ -3,7 +3,6 @@ use mathlib.Core.Path.{◌≡◌, refl, ap, ◌∙◌}
 use mathlib.Core.Bool.{cond}
 use Prim.Native.Nat.{ℕ, ◌+◌, ◌-◌, ◌*◌, ◌/◌, ◌≤◌}
 use native.Mathlib.Omega.{arith}
-use borrow.Author.Rules.{rules}
 use lib.Dec.{ltb}
 use lib.IntN.{ℤ, pos, nat_abs, ◌+ℤ◌, ◌-ℤ◌}
 use lib.Signed.{lt_z}
@@ -12,7 +11,7 @@ use Rattle.pixel.proofs.Sizes.{held_le}
 use Rattle.pixel.proofs.Signs.{rd32, rd32_is, held_is}
 use Rattle.pixel.proofs.Scaled.{recovered_is}
 use Rattle.pixel.proofs.recovered.Goals as goal
-use Rattle.pixel.proofs.recovered.Goals.{After-apart, After-highest, After-lowest, After-moved, After-stretched-q, Start}
+use Rattle.pixel.proofs.recovered.Goals.{After-highest, After-moved, After-stretched-q, Start}
 
 module _ (s : Start) where
   abbrev a : ℕ

@@ -3,13 +3,12 @@ use Prim.Native.Nat.{ℕ, ◌≤◌, ◌*◌, ◌/◌}
 use mathlib.Core.Path.{◌≡◌, ap, ap₂, ◌∙◌}
 use lib.IntN.{ℤ, pos, nat_abs, ◌+ℤ◌, ◌*ℤ◌}
 use native.Mathlib.Omega.{arith}
-use borrow.Author.Rules.{rules}
 use Rattle.rules.specs.Transmission.{held}
 use Rattle.rules.proofs.Integers.{rd, rd_is}
 use Rattle.pixel.proofs.Sizes.{refined_top, held_le, refined_le, refined_first}
 use Rattle.pixel.proofs.Scaled.{inverse_fits, inverse_is}
 use Rattle.pixel.proofs.refined.Goals as goal
-use Rattle.pixel.proofs.refined.Goals.{After-hold-v, After-over, After-unheld, Start}
+use Rattle.pixel.proofs.refined.Goals.{After-hold-v, Start}
 
 module _ (s : Start) where
   abbrev n : ℕ

@@ -2,10 +2,9 @@
 use Prim.Native.Nat.{max, ◌/◌, ◌≤◌}
 use native.Mathlib.Nat.{mul-div-le, mul-le-mul_right}
 use native.Mathlib.Omega.{arith}
-use borrow.Author.Rules.{rules}
 use Rattle.pixel.proofs.Scaled.{over}
 use Rattle.pixel.proofs.scale.Goals as goal
-use Rattle.pixel.proofs.scale.Goals.{After-larger, Start}
+use Rattle.pixel.proofs.scale.Goals.{After-larger}
 
 small : (c : After-larger) → 83886080000 / c.larger.result ≤ 2150925128
 small c =

@@ -1,13 +1,12 @@
 -- `pixel::signed` meets its contract. Assumes nothing.
 use mathlib.Core.Path.{◌≡◌, ap, ◌∙◌}
 use lib.IntN.{ℤ, pos, negsuc, ◌-ℤ◌}
-use borrow.Author.Rules.{rules}
 use mir.Syntax.{w64}
 use mir.Val.{SFits, to_z}
 use Rattle.rules.proofs.Integers.{back, rd_is}
 use Rattle.pixel.proofs.Signs.{minus_is}
 use Rattle.pixel.proofs.signed.Goals as goal
-use Rattle.pixel.proofs.signed.Goals.{Else-below, Start, Then-below}
+use Rattle.pixel.proofs.signed.Goals.{Start}
 
 module _ (s : Start) where
   is : to_z w64 s.args.d ≡ pos s.args.d

@@ -4,7 +4,6 @@ use mathlib.Core.Bool.{false}
 use lib.IntN.{ℤ, pos, negsuc, nat_abs, ◌-ℤ◌}
 use lib.Signed.{lt_z, mag}
 use native.Mathlib.Omega.{arith}
-use borrow.Author.Rules.{rules}
 use mir.Syntax.{w64}
 use mir.Val.{SFits}
 use Rattle.rules.proofs.Integers.{back, rd}

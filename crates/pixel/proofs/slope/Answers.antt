@@ -4,14 +4,13 @@ use mathlib.Core.Path.{◌≡◌, ap, ap₂, ◌∙◌}
 use lib.IntN.{ℤ, pos, ◌-ℤ◌, ◌*ℤ◌}
 use lib.Signed.{shr_z}
 use native.Mathlib.Omega.{arith}
-use borrow.Author.Rules.{rules}
 use mir.Syntax.{w64}
 use mir.Val.{SFits, to_z}
 use Rattle.rules.specs.Transmission.{P, Q, slope_of}
 use Rattle.rules.proofs.Integers.{back, fits, rd, rd_is}
 use Rattle.pixel.proofs.Sizes.{Sizes, sizes, slope_small}
 use Rattle.pixel.proofs.slope.Goals as goal
-use Rattle.pixel.proofs.slope.Goals.{After-floor_div, Start}
+use Rattle.pixel.proofs.slope.Goals.{Start}
 
 module _ (s : Start) where
   abbrev n : ℕ

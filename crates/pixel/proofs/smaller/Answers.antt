@@ -1,7 +1,6 @@
 -- `pixel::smaller` meets its contract. Assumes nothing.
 use Rattle.pixel.proofs.Fractions.{smaller_is}
 use Rattle.pixel.proofs.smaller.Goals as goal
-use Rattle.pixel.proofs.smaller.Goals.{After-chosen-3, Start}
 
 pub is_smaller-second-requires : goal.is_smaller-second-requires
 is_smaller-second-requires c = (c.requires.1, c.requires.0)

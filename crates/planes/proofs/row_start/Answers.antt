@@ -4,9 +4,8 @@ use Prim.Native.Nat.{◌+◌, ◌*◌, ◌≤◌}
 use native.Mathlib.Omega.{arith}
 use Rattle.planes.specs.View.{row_start}
 use Rattle.planes.proofs.Shown.{row_inside}
-use borrow.Author.Rules.{rules}
 use Rattle.planes.proofs.row_start.Goals as goal
-use Rattle.planes.proofs.row_start.Goals.{After-struct_known-1, After-struct_known-2-1, After-struct_known-3-1, Start}
+use Rattle.planes.proofs.row_start.Goals.{Start}
 
 ends : (s : Start) → row_start s.args.v s.args.y + s.args.v.wide ≤ s.args.v.w * s.args.v.h
 ends s = row_inside s.args.v s.args.y s.requires.0 s.requires.1

@@ -1,5 +1,5 @@
 -- `planes::wipe` meets its contract. The loop's invariant: the first i are 0, the rest is as it was. Assumes nothing.
-use Prim.Native.Nat.{ℕ, zero, suc, ◌≤◌, ◌<◌, ◌-◌}
+use Prim.Native.Nat.{ℕ, zero, suc, ◌<◌}
 use mathlib.Core.Path.{◌≡◌, ap, refl}
 use mathlib.Core.List.{List, [], ◌∷◌, ◌++◌}
 use lib.IntN.{ℤ, pos}
@@ -7,9 +7,7 @@ use lib.ListN.{length, drop, replicate, set, length-set}
 use native.Mathlib.Nat.{not-suc-le-zero, le_of_suc-le-suc}
 use native.Mathlib.Numerals.{add-one}
 use native.Mathlib.Omega.{arith}
-use borrow.Author.Rules.{rules}
 use Rattle.planes.proofs.wipe.Goals as goal
-use Rattle.planes.proofs.wipe.Goals.{After-loop-i, In-loop-i, Start}
 
 fill_suc : (n : ℕ) (v : ℤ) (d : List ℤ) → n < length d → set (replicate n v ++ drop n d) n v ≡ replicate (suc n) v ++ drop (suc n) d
 fill_suc n v [] l = absurd (not-suc-le-zero l)

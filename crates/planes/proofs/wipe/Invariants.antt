@@ -1,13 +1,9 @@
 -- `planes::wipe` meets its contract. The loop's invariant: the first i are 0, the rest is as it was. Assumes nothing.
-use Prim.Native.Nat.{ℕ, zero, suc, ◌≤◌, ◌<◌, ◌-◌}
-use mathlib.Core.Path.{◌≡◌, ap, refl}
-use mathlib.Core.List.{List, [], ◌∷◌, ◌++◌}
-use lib.IntN.{ℤ, pos}
-use lib.ListN.{length, drop, replicate, set, length-set}
-use native.Mathlib.Nat.{not-suc-le-zero, le_of_suc-le-suc}
-use native.Mathlib.Numerals.{add-one}
-use native.Mathlib.Omega.{arith}
-use borrow.Author.Rules.{rules}
+use Prim.Native.Nat.{◌≤◌, ◌-◌}
+use mathlib.Core.Path.{◌≡◌}
+use mathlib.Core.List.{◌++◌}
+use lib.IntN.{pos}
+use lib.ListN.{length, drop, replicate}
 use Rattle.planes.proofs.wipe.Given as goal
 
 abbrev pub invariant-loop-i : goal.invariant-loop-i

@@ -4,7 +4,7 @@ use mathlib.Core.Bool.{false}
 use Rattle.rules.specs.Refusals.{bad_size, refuse_clear}
 use Rattle.rules.proofs.Good.{size_good}
 use Rattle.refusals.proofs.refuse_clear.Goals as goal
-use Rattle.refusals.proofs.refuse_clear.Goals.{After-first_of, After-wrong_frame-bytes, After-wrong_light-light, After-wrong_loan-loan, After-wrong_settings-settings, Else-wrong_size, Start, Then-wrong_size}
+use Rattle.refusals.proofs.refuse_clear.Goals.{Else-wrong_size}
 
 small : (c : Else-wrong_size) → bad_size c.args.z ≡ false
 small c = sym c.wrong_size.ensures ∙ c.if-wrong_size.false

@@ -4,7 +4,7 @@ use mathlib.Core.Bool.{false}
 use Rattle.rules.specs.Refusals.{bad_size, refuse_haze}
 use Rattle.rules.proofs.Good.{size_good}
 use Rattle.refusals.proofs.refuse_haze.Goals as goal
-use Rattle.refusals.proofs.refuse_haze.Goals.{After-either-lengths, After-first_of, After-shared_slice_known-1, After-wrong_entries-entries, After-wrong_frame, After-wrong_frame-bytes, After-wrong_light-light, After-wrong_map, Else-wrong_size, Then-wrong_size}
+use Rattle.refusals.proofs.refuse_haze.Goals.{Else-wrong_size}
 
 small : (c : Else-wrong_size) → bad_size c.args.z ≡ false
 small c = sym c.wrong_size.ensures ∙ c.if-wrong_size.false

@@ -1,8 +1,8 @@
 -- `refusals::refuse_light` meets its contract: a size that is refused, or else the tests after it, joined by equations; last, whether a pixel is seen.
 -- Assumes nothing.
 use mathlib.Core.Path.{◌≡◌, refl, sym, ◌∙◌}
-use mathlib.Core.Bool.{Bool, true, false, ◌||◌}
-use mathlib.Core.List.{List, [], ◌∷◌}
+use mathlib.Core.Bool.{Bool, false, ◌||◌}
+use mathlib.Core.List.{[], ◌∷◌}
 use Prim.Native.Nat.{ℕ}
 use lib.ListN.{length}
 use Rattle.rules.specs.declared.Size.{Size}
@@ -11,7 +11,7 @@ use Rattle.rules.specs.Refusals.{Tests, first, bad_size, bad_settings, bad_frame
 use Rattle.rules.proofs.Good.{size_good}
 use Rattle.rules.proofs.Exactly.{accepted, joined_some, joined_none}
 use Rattle.refusals.proofs.refuse_light.Goals as goal
-use Rattle.refusals.proofs.refuse_light.Goals.{After-either-lengths, After-first_of-n, After-shared_slice_known-1, After-wrong_frame-bytes, After-wrong_mask, After-wrong_seen, After-wrong_settings-settings, After-wrong_work, Else-n-ne0, Else-wrong_seen, Else-wrong_size, Then-n-ne0, Then-wrong_seen, Then-wrong_size}
+use Rattle.refusals.proofs.refuse_light.Goals.{After-first_of-n, After-wrong_seen, Else-wrong_size}
 
 -- the tests of 2, 3 and 4
 abbrev three : Size → Settings → ℕ → ℕ → ℕ → Tests

@@ -12,7 +12,7 @@ use Rattle.rules.specs.Good.{GoodSize}
 use Rattle.rules.specs.Refusals.{bad_rect, bad_new}
 use Rattle.rules.proofs.Good.{rect_good}
 use Rattle.refusals.proofs.refuse_rect.Goals as goal
-use Rattle.refusals.proofs.refuse_rect.Goals.{After-struct_known-1, Else-new-c, Else-wrong_rect, Start, Then-new-c, Then-wrong_rect}
+use Rattle.refusals.proofs.refuse_rect.Goals.{Else-wrong_rect}
 
 inside : (c : Else-wrong_rect) → bad_rect c.args.z c.args.c ≡ false
 inside c = sym c.wrong_rect.ensures ∙ c.if-wrong_rect.false

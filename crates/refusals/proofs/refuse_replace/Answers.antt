@@ -10,7 +10,6 @@ use Rattle.rules.proofs.Good.{size_good}
 use Rattle.rules.proofs.Exactly.{None, accepted, joined_some, joined_none}
 use Rattle.refusals.specs.Past.{rest_replace}
 use Rattle.refusals.proofs.refuse_replace.Goals as goal
-use Rattle.refusals.proofs.refuse_replace.Goals.{After-refuse_rect, Else-n-ne0, Start, Then-n-ne0}
 
 module _ (z : Size) (k : Settings) (a : Rgb) (c : Rect) (new mask frame map picture work : ℕ) where
   early : (n : ℕ) → n ≡ refuse_clear z k a mask frame map picture work → (n ≡ 0 → ⊥) → n ≡ refuse_replace z k a c new mask frame map picture work

@@ -1,7 +1,5 @@
 -- `refusals::wrong_loan` meets its contract. Assumes nothing.
-use borrow.Author.Rules.{rules}
 use Rattle.refusals.proofs.wrong_loan.Goals as goal
-use Rattle.refusals.proofs.wrong_loan.Goals.{After-either, After-either-bytes, After-either-entries, After-wrong_frame, After-wrong_map, After-wrong_mask, After-wrong_work, Start}
 
 pub either-bytes-requires : goal.either-bytes-requires
 either-bytes-requires c = tt

@@ -10,7 +10,7 @@ use Rattle.sizes.specs.Sizes.{bits_of}
 use Rattle.sizes.proofs.Bits.{bits_small, bit_row, mask_row}
 use Rattle.sizes.proofs.Rows.{above_inside, row_after, both, stays, gains, loses, slides}
 use Rattle.sizes.proofs.advance.Goals as goal
-use Rattle.sizes.proofs.advance.Goals.{After-cols-1, After-cols-then-r-y-2-1, After-let_out-arg-1, After-let_out-arg-then-r-y-2-1, After-row_start, After-row_start-2, After-row_start-then-r-y-2, After-shared_slice_known-1, After-take_in-arg-1, Else-r-y, Else-r-y-2, Start}
+use Rattle.sizes.proofs.advance.Goals.{Start}
 
 -- row u of the box can enter the columns or leave them
 row : (s : Start) (u at : ℕ) → at ≡ row_start s.args.b u → u < s.args.v.h

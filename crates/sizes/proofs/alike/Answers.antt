@@ -1,11 +1,9 @@
 -- `sizes::alike` meets its contract. The loop's invariant: d is at most i, and where it is 0, the first i pixels are seen alike. Assumes nothing.
-use Prim.Native.Nat.{◌≤◌, ◌-◌}
 use mathlib.Core.Path.{◌≡◌}
 use native.Mathlib.Omega.{arith}
 use borrow.Author.Tests.{eqb-true}
-use Rattle.sizes.proofs.Bits.{AlikeTo, alike_none, alike_more}
+use Rattle.sizes.proofs.Bits.{alike_none, alike_more}
 use Rattle.sizes.proofs.alike.Goals as goal
-use Rattle.sizes.proofs.alike.Goals.{After-differ-d, After-loop-i, After-shared_slice_known-1, After-shared_slice_known-in-loop-i-1, After-shared_slice_known-in-loop-i-1-unread, After-shared_slice_known-in-loop-i-2-1, After-shared_slice_known-in-loop-i-2-1-unread, In-loop-i}
 
 pub loop-i-init : goal.loop-i-init
 loop-i-init c = (omega arith, omega arith, let a = c.args in alike_none a.mask.now a.at a.other 0)

@@ -1,9 +1,6 @@
 -- `sizes::alike` meets its contract. The loop's invariant: d is at most i, and where it is 0, the first i pixels are seen alike. Assumes nothing.
 use Prim.Native.Nat.{◌≤◌, ◌-◌}
-use mathlib.Core.Path.{◌≡◌}
-use native.Mathlib.Omega.{arith}
-use borrow.Author.Tests.{eqb-true}
-use Rattle.sizes.proofs.Bits.{AlikeTo, alike_none, alike_more}
+use Rattle.sizes.proofs.Bits.{AlikeTo}
 use Rattle.sizes.proofs.alike.Given as goal
 
 abbrev pub invariant-loop-i : goal.invariant-loop-i

@@ -1,14 +1,12 @@
 -- `sizes::begin` meets its contract. The loop's invariant: the columns are those of the rows above y. Assumes nothing.
-use Prim.Native.Nat.{◌+◌, ◌≤◌, ◌<◌, ◌-◌}
-use mathlib.Core.Path.{◌≡◌, ◌∙◌, refl}
-use lib.ListN.{length}
+use Prim.Native.Nat.{◌+◌, ◌≤◌, ◌<◌}
+use mathlib.Core.Path.{◌∙◌, refl}
 use native.Mathlib.Omega.{arith}
-use Rattle.sums.specs.Sum.{Columns}
 use Rattle.sums.proofs.Strips.{enter_strip, same_strip, none_strip}
-use Rattle.sizes.specs.Sizes.{bit_plane, bits_of}
+use Rattle.sizes.specs.Sizes.{bits_of}
 use Rattle.sizes.proofs.Bits.{bit_row, mask_row}
 use Rattle.sizes.proofs.begin.Goals as goal
-use Rattle.sizes.proofs.begin.Goals.{After-cols-1, After-cut-end, After-less-y, After-loop-y, After-row_start, After-shared_slice_known-1, After-take_in-arg-1, In-loop-y}
+use Rattle.sizes.proofs.begin.Goals.{In-loop-y}
 
 -- row y lies in the plane, and above what the first squares have
 inside : (t : In-loop-y) → let a = t.args in (t.loop-y.y < a.v.h) × (t.loop-y.y < a.v.top + a.r)

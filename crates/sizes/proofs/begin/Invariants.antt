@@ -1,12 +1,9 @@
 -- `sizes::begin` meets its contract. The loop's invariant: the columns are those of the rows above y. Assumes nothing.
-use Prim.Native.Nat.{◌+◌, ◌≤◌, ◌<◌, ◌-◌}
-use mathlib.Core.Path.{◌≡◌, ◌∙◌, refl}
+use Prim.Native.Nat.{◌+◌, ◌≤◌, ◌-◌}
+use mathlib.Core.Path.{◌≡◌}
 use lib.ListN.{length}
-use native.Mathlib.Omega.{arith}
 use Rattle.sums.specs.Sum.{Columns}
-use Rattle.sums.proofs.Strips.{enter_strip, same_strip, none_strip}
-use Rattle.sizes.specs.Sizes.{bit_plane, bits_of}
-use Rattle.sizes.proofs.Bits.{bit_row, mask_row}
+use Rattle.sizes.specs.Sizes.{bit_plane}
 use Rattle.sizes.proofs.begin.Given as goal
 
 abbrev pub invariant-loop-y : goal.invariant-loop-y

@@ -4,7 +4,6 @@ use mathlib.Core.Bool.{Bool, true, false, not, true≢false, beq}
 use native.Mathlib.Omega.{arith}
 use lib.Dec.{eqb}
 use Rattle.sizes.proofs.differ.Goals as goal
-use Rattle.sizes.proofs.differ.Goals.{Else-m-o, Then-m-o}
 
 both_not : (a b : Bool) → beq a b ≡ true → not a ≡ not b
 both_not true true e = refl

@@ -1,9 +1,7 @@
 -- `sizes::inverse_of` meets its contract: what is known stands in the table, and what is not is put there. Assumes nothing.
 use native.Mathlib.Omega.{arith}
-use borrow.Author.Rules.{rules}
 use Rattle.sizes.proofs.Counts.{known_over, table_more}
 use Rattle.sizes.proofs.inverse_of.Goals as goal
-use Rattle.sizes.proofs.inverse_of.Goals.{After-reciprocal-k, After-slice_known-1, After-slice_known-2-1-unread, Else-known-ne0, Then-known-ne0}
 
 pub returns-then-known-ne0 : goal.returns-then-known-ne0
 returns-then-known-ne0 c =

@@ -1,12 +1,9 @@
 -- `sizes::inverse_row` meets its contract. The loop's invariant is the contract at i sizes. Assumes nothing.
-use Prim.Native.Nat.{◌≤◌, ◌-◌}
 use mathlib.Core.Path.{◌≡◌, ◌∙◌, refl}
-use lib.ListN.{length, length-set}
+use lib.ListN.{length-set}
 use native.Mathlib.Omega.{arith}
-use Rattle.sizes.specs.Sizes.{Table, Inverted}
 use Rattle.sizes.proofs.Counts.{inverted_none, inverted_more}
 use Rattle.sizes.proofs.inverse_row.Goals as goal
-use Rattle.sizes.proofs.inverse_row.Goals.{After-inverse_of-arg-1, After-loop-i, After-shared_slice_known-in-loop-i-1, After-shared_slice_known-in-loop-i-1-unread, After-slice_known-2-1, After-slice_known-in-loop-i-1}
 
 pub loop-i-init : goal.loop-i-init
 loop-i-init c = (omega arith, refl, refl, c.requires.0, inverted_none _ _)

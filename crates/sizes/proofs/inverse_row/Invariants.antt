@@ -1,10 +1,8 @@
 -- `sizes::inverse_row` meets its contract. The loop's invariant is the contract at i sizes. Assumes nothing.
 use Prim.Native.Nat.{◌≤◌, ◌-◌}
-use mathlib.Core.Path.{◌≡◌, ◌∙◌, refl}
-use lib.ListN.{length, length-set}
-use native.Mathlib.Omega.{arith}
+use mathlib.Core.Path.{◌≡◌}
+use lib.ListN.{length}
 use Rattle.sizes.specs.Sizes.{Table, Inverted}
-use Rattle.sizes.proofs.Counts.{inverted_none, inverted_more}
 use Rattle.sizes.proofs.inverse_row.Given as goal
 
 abbrev pub invariant-loop-i : goal.invariant-loop-i

@@ -1,12 +1,9 @@
 -- `sizes::let_out` meets its contract. The loop's invariant is the contract at i columns. Assumes nothing.
 use Prim.Native.Nat.{◌≤◌, ◌-◌}
-use mathlib.Core.Path.{◌≡◌, refl}
-use lib.ListN.{length, length-set}
-use native.Mathlib.Omega.{arith}
+use mathlib.Core.Path.{◌≡◌}
+use lib.ListN.{length}
 use Rattle.sums.specs.Sum.{Rewritten, left}
-use Rattle.sums.proofs.Turns.{Turn, rewritten_none, turned}
 use Rattle.sizes.specs.Sizes.{bits_of}
-use Rattle.sizes.proofs.Bits.{lets}
 use Rattle.sizes.proofs.let_out.Given as goal
 
 abbrev pub invariant-loop-i : goal.invariant-loop-i

@@ -8,7 +8,7 @@ use Rattle.sizes.proofs.Bits.{bits_small}
 use Rattle.sizes.proofs.Rows.{still}
 use Rattle.sizes.proofs.Spanned.{counts, countable, sizes_all, sizes_same}
 use Rattle.sizes.proofs.resize.Goals as goal
-use Rattle.sizes.proofs.resize.Goals.{After-advance-arg-1, After-cols-1, After-inverse_row-arg-2-1, After-size_row-arg-1, After-slice_known-6-1, After-struct_known-1, Start, Then-unchanged, Then-y-gt0}
+use Rattle.sizes.proofs.resize.Goals.{Start}
 
 -- the row lies in the plane
 inside : (s : Start) → s.args.v.top + s.args.y < s.args.v.h

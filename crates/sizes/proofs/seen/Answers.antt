@@ -1,7 +1,6 @@
 -- `sizes::seen` meets its contract. Assumes nothing.
 use borrow.Author.Tests.{eq-eqb, ne_eqb}
 use Rattle.sizes.proofs.seen.Goals as goal
-use Rattle.sizes.proofs.seen.Goals.{Else-m-eq0, Then-m-eq0}
 
 pub returns-then-m-eq0 : goal.returns-then-m-eq0
 returns-then-m-eq0 c = rw (eq-eqb _ _ c.if-m-eq0.true)

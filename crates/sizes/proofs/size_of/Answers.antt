@@ -9,7 +9,7 @@ use lib.Signed.{lt_z}
 use Rattle.rules.proofs.Integers.{back, rd}
 use Rattle.pixel.proofs.Signs.{plain}
 use Rattle.sizes.proofs.size_of.Goals as goal
-use Rattle.sizes.proofs.size_of.Goals.{Else-n-lt1, Start, Then-n-lt1}
+use Rattle.sizes.proofs.size_of.Goals.{Start}
 
 below : (k : ℕ) → lt_z (pos k) (pos 1) ≡ true → 1 ≡ max 1 k
 below k t = omega (arith, ltb-true k 1 t)

@@ -1,14 +1,12 @@
 -- `sizes::size_row` meets its contract. The loop's invariant: s holds the sum before window i, and the sizes of the first i windows are there. Assumes nothing.
-use Prim.Native.Nat.{◌+◌, ◌≤◌, ◌-◌, max}
+use Prim.Native.Nat.{◌+◌, max}
 use mathlib.Core.Path.{◌≡◌, ap, refl, ◌∙◌}
-use lib.ListN.{length, length-set}
+use lib.ListN.{length-set}
 use lib.IntN.{ℤ, nat_abs}
 use native.Mathlib.Omega.{arith}
-use Rattle.sums.proofs.Turns.{Holds, holds_first, holds_next, differs, moves, moved_back}
-use Rattle.sizes.specs.Sizes.{Counted}
+use Rattle.sums.proofs.Turns.{holds_first, holds_next, differs, moves, moved_back}
 use Rattle.sizes.proofs.Counts.{counted_none, counted_more, count_as}
 use Rattle.sizes.proofs.size_row.Goals as goal
-use Rattle.sizes.proofs.size_row.Goals.{After-first-s, After-loop-i, After-s-1, After-s-in-loop-i-1, After-size_of, After-slice_known-1, In-loop-i}
 
 pub first-s-requires : goal.first-s-requires
 first-s-requires c = (c.requires.spannable.0, omega arith, omega arith, omega arith)

@@ -1,12 +1,9 @@
 -- `sizes::size_row` meets its contract. The loop's invariant: s holds the sum before window i, and the sizes of the first i windows are there. Assumes nothing.
-use Prim.Native.Nat.{◌+◌, ◌≤◌, ◌-◌, max}
-use mathlib.Core.Path.{◌≡◌, ap, refl, ◌∙◌}
-use lib.ListN.{length, length-set}
-use lib.IntN.{ℤ, nat_abs}
-use native.Mathlib.Omega.{arith}
-use Rattle.sums.proofs.Turns.{Holds, holds_first, holds_next, differs, moves, moved_back}
+use Prim.Native.Nat.{◌≤◌, ◌-◌}
+use mathlib.Core.Path.{◌≡◌}
+use lib.ListN.{length}
+use Rattle.sums.proofs.Turns.{Holds}
 use Rattle.sizes.specs.Sizes.{Counted}
-use Rattle.sizes.proofs.Counts.{counted_none, counted_more, count_as}
 use Rattle.sizes.proofs.size_row.Given as goal
 
 abbrev pub invariant-loop-i : goal.invariant-loop-i

@@ -1,14 +1,13 @@
 -- `sizes::take_in` meets its contract. The loop's invariant is the contract at i columns. Assumes nothing.
-use Prim.Native.Nat.{◌≤◌, ◌-◌}
 use mathlib.Core.Path.{◌≡◌, refl}
-use lib.ListN.{length, length-set}
+use lib.ListN.{length-set}
 use native.Mathlib.Omega.{arith}
-use Rattle.sums.specs.Sum.{Rewritten, entered}
+use Rattle.sums.specs.Sum.{entered}
 use Rattle.sums.proofs.Turns.{Turn, rewritten_none, turned}
 use Rattle.sizes.specs.Sizes.{bits_of}
 use Rattle.sizes.proofs.Bits.{takes}
 use Rattle.sizes.proofs.take_in.Goals as goal
-use Rattle.sizes.proofs.take_in.Goals.{After-cols-1, After-loop-i, After-seen, After-shared_slice_known-1, After-shared_slice_known-in-loop-i-1, After-shared_slice_known-in-loop-i-1-unread, In-loop-i}
+use Rattle.sizes.proofs.take_in.Goals.{In-loop-i}
 
 turn : (t : In-loop-i) → let a = t.args in
     Turn a.cols.now t.loop-i.cols a.to (bits_of a.mask.now) a.at a.n t.loop-i.i (entered a.cols.now a.to (bits_of a.mask.now) a.at)

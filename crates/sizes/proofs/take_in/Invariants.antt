@@ -1,12 +1,9 @@
 -- `sizes::take_in` meets its contract. The loop's invariant is the contract at i columns. Assumes nothing.
 use Prim.Native.Nat.{◌≤◌, ◌-◌}
-use mathlib.Core.Path.{◌≡◌, refl}
-use lib.ListN.{length, length-set}
-use native.Mathlib.Omega.{arith}
+use mathlib.Core.Path.{◌≡◌}
+use lib.ListN.{length}
 use Rattle.sums.specs.Sum.{Rewritten, entered}
-use Rattle.sums.proofs.Turns.{Turn, rewritten_none, turned}
 use Rattle.sizes.specs.Sizes.{bits_of}
-use Rattle.sizes.proofs.Bits.{takes}
 use Rattle.sizes.proofs.take_in.Given as goal
 
 abbrev pub invariant-loop-i : goal.invariant-loop-i

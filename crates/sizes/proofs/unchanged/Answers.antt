@@ -5,7 +5,7 @@ use mathlib.Core.Bool.{true≢false}
 use native.Mathlib.Omega.{arith}
 use Rattle.sizes.proofs.Bits.{alike_rows}
 use Rattle.sizes.proofs.unchanged.Goals as goal
-use Rattle.sizes.proofs.unchanged.Goals.{After-alike, After-row_start, After-row_start-2, Else-v-y, Else-y-r, Start, Then-v-y, Then-y-r}
+use Rattle.sizes.proofs.unchanged.Goals.{Else-v-y, Start}
 
 -- both rows lie in the box
 enters_at : (c : Else-v-y) → let a = c.args in a.y + a.r < a.b.tall

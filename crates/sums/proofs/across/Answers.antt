@@ -4,7 +4,6 @@ use mathlib.Core.Path.{◌≡◌}
 use native.Mathlib.Omega.{arith}
 use Rattle.sums.proofs.Turns.{running_none, running_more, differs, moves}
 use Rattle.sums.proofs.across.Goals as goal
-use Rattle.sums.proofs.across.Goals.{After-first-s, After-first-t, After-loop-i, After-s-1, After-s-in-loop-i-1, After-t-1, After-t-in-loop-i-1, In-loop-i, Start}
 
 pub first-s-requires : goal.first-s-requires
 first-s-requires c = (c.requires.0, omega arith, omega arith, omega arith)

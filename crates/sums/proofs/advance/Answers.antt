@@ -7,7 +7,7 @@ use Rattle.planes.proofs.Shown.{row_end}
 use Rattle.sums.specs.Sum.{RowIn}
 use Rattle.sums.proofs.Strips.{cells_row, summable_small, row_in, enter_strip, leave_strip, slide_strip, same_strip}
 use Rattle.sums.proofs.advance.Goals as goal
-use Rattle.sums.proofs.advance.Goals.{After-cols-1, After-cols-2-1, After-cols-then-y-r-1, After-enter-arg-1, After-leave-arg-1, After-slide-arg-1, After-struct_known-2-1, After-struct_known-3-1, After-struct_known-then-r-y-1, After-struct_known-then-y-r-1, Else-r-y, Start}
+use Rattle.sums.proofs.advance.Goals.{Start}
 
 -- row u of the plane
 row : (s : Start) (u : ℕ) → u < s.args.v.h → RowIn s.args.cols.now (s.args.r + 1) s.args.plane.now (u * s.args.v.w) s.args.v.w

@@ -8,7 +8,7 @@ use Rattle.planes.proofs.Shown.{row_end}
 use Rattle.sums.specs.Sum.{RowIn}
 use Rattle.sums.proofs.Strips.{cells_row, summable_small, row_in, enter_strip, same_strip, none_strip}
 use Rattle.sums.proofs.begin.Goals as goal
-use Rattle.sums.proofs.begin.Goals.{After-cols-1, After-cut-end, After-enter-arg-1, After-less-y, After-loop-y, After-struct_known-1, In-loop-y, Start}
+use Rattle.sums.proofs.begin.Goals.{In-loop-y}
 
 -- row y lies in the plane, and above what the first squares have
 inside : (t : In-loop-y) → (t.loop-y.y < t.args.v.h) × (t.loop-y.y < t.args.v.top + t.args.r)

@@ -5,7 +5,7 @@ use native.Mathlib.Omega.{arith}
 use Rattle.sums.specs.Sum.{left}
 use Rattle.sums.proofs.Turns.{Turn, rewritten_none, leaves, turned}
 use Rattle.sums.proofs.leave.Goals as goal
-use Rattle.sums.proofs.leave.Goals.{After-cols-1, After-cols-in-loop-i-1, After-loop-i, In-loop-i, Start}
+use Rattle.sums.proofs.leave.Goals.{In-loop-i}
 
 turn : (t : In-loop-i) → let a = t.args in
     Turn a.cols.now t.loop-i.cols a.to a.plane.now a.at a.n t.loop-i.i (left a.cols.now a.to a.plane.now a.at)

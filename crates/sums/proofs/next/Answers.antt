@@ -3,7 +3,7 @@ use Prim.Native.Nat.{◌+◌, ◌<◌}
 use native.Mathlib.Omega.{arith}
 use Rattle.sums.proofs.Strips.{summable_small, spannable, along}
 use Rattle.sums.proofs.next.Goals as goal
-use Rattle.sums.proofs.next.Goals.{After-across-arg-2-1, After-b-1, After-struct_known-1, After-struct_known-2-1, After-two-1, Start}
+use Rattle.sums.proofs.next.Goals.{Start}
 
 -- the row lies in the plane
 inside : (s : Start) → s.args.v.top + s.args.y < s.args.v.h

@@ -1,11 +1,8 @@
 -- `windows::ahead` meets its contract. The invariant: m is the least from `first` to i, p has such minima up to i, and there
 -- was a comparison for each sample after `first`. Assumes nothing.
-use mathlib.Core.Path.{◌≡◌, ◌∙◌}
+use mathlib.Core.Path.{◌≡◌}
 use Prim.Native.Nat.{◌+◌, ◌-◌, ◌≤◌}
-use native.Mathlib.Omega.{arith}
-use borrow.Author.Rules.{rules}
-use lib.ListN.{length, length-set}
-use Rattle.windows.proofs.Lines.{AheadTo, ahead_first, ahead_more, ahead_done}
+use Rattle.windows.proofs.Lines.{AheadTo}
 use Rattle.windows.proofs.ahead.Given as goal
 
 abbrev pub invariant-loop-i : goal.invariant-loop-i

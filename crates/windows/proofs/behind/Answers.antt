@@ -1,11 +1,9 @@
 -- `windows::behind` meets its contract. The invariant: m is the least from i to `last`, q has such minima from i on, and there was
 -- a comparison for each sample before `last`. Assumes nothing.
 use mathlib.Core.Path.{◌≡◌, ◌∙◌}
-use Prim.Native.Nat.{◌+◌, ◌-◌, ◌≤◌}
 use native.Mathlib.Omega.{arith}
-use borrow.Author.Rules.{rules}
 use lib.ListN.{length, length-set}
-use Rattle.windows.proofs.Lines.{BehindTo, behind_first, behind_more, behind_done}
+use Rattle.windows.proofs.Lines.{behind_first, behind_more, behind_done}
 use Rattle.windows.proofs.behind.Goals as goal
 use Rattle.windows.proofs.behind.Goals.{At-loop-i}
 

@@ -3,10 +3,8 @@
 use mathlib.Core.Path.{◌≡◌, refl, ◌∙◌}
 use Prim.Native.Nat.{◌+◌, ◌-◌, ◌≤◌}
 use native.Mathlib.Omega.{arith}
-use borrow.Author.Rules.{rules}
-use lib.ListN.{length}
 use Rattle.rules.proofs.Count.{inner, inner_le_two}
-use Rattle.windows.proofs.Lines.{HalvesTo, halves_none, halves_more, count_more, count_done}
+use Rattle.windows.proofs.Lines.{halves_none, halves_more, count_more, count_done}
 use Rattle.windows.proofs.halves.Goals as goal
 use Rattle.windows.proofs.halves.Goals.{After-slice_known-in-loop-first-2-1, Start}
 

@@ -1,12 +1,10 @@
 -- `windows::halves` meets its contract. The invariant: the minima stand in the blocks before `first`, which is a block's start, and the count
 -- lacks what the rest of the line takes. Assumes nothing.
-use mathlib.Core.Path.{◌≡◌, refl, ◌∙◌}
-use Prim.Native.Nat.{◌+◌, ◌-◌, ◌≤◌}
-use native.Mathlib.Omega.{arith}
-use borrow.Author.Rules.{rules}
+use mathlib.Core.Path.{◌≡◌}
+use Prim.Native.Nat.{◌+◌, ◌-◌}
 use lib.ListN.{length}
-use Rattle.rules.proofs.Count.{inner, inner_le_two}
-use Rattle.windows.proofs.Lines.{HalvesTo, halves_none, halves_more, count_more, count_done}
+use Rattle.rules.proofs.Count.{inner}
+use Rattle.windows.proofs.Lines.{HalvesTo}
 use Rattle.windows.proofs.halves.Given as goal
 
 abbrev pub invariant-loop-first : goal.invariant-loop-first

@@ -1,11 +1,9 @@
 -- `windows::join_run` meets its contract. The invariant: the first i windows are written, with i comparisons. Assumes nothing.
 use mathlib.Core.Path.{◌≡◌, refl}
-use Prim.Native.Nat.{◌+◌, ◌-◌, ◌≤◌, min}
+use Prim.Native.Nat.{◌+◌}
 use native.Mathlib.Nat.{add-zero}
 use native.Mathlib.Omega.{arith}
-use borrow.Author.Rules.{rules}
-use lib.ListN.{length, length-set}
-use Rattle.windows.specs.Line.{entry, Written}
+use lib.ListN.{length-set}
 use Rattle.windows.proofs.Lines.{written_none, written_more}
 use Rattle.windows.proofs.Windows.{joined}
 use Rattle.windows.proofs.join_run.Goals as goal

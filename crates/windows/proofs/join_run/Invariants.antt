@@ -1,13 +1,8 @@
 -- `windows::join_run` meets its contract. The invariant: the first i windows are written, with i comparisons. Assumes nothing.
-use mathlib.Core.Path.{◌≡◌, refl}
+use mathlib.Core.Path.{◌≡◌}
 use Prim.Native.Nat.{◌+◌, ◌-◌, ◌≤◌, min}
-use native.Mathlib.Nat.{add-zero}
-use native.Mathlib.Omega.{arith}
-use borrow.Author.Rules.{rules}
-use lib.ListN.{length, length-set}
+use lib.ListN.{length}
 use Rattle.windows.specs.Line.{entry, Written}
-use Rattle.windows.proofs.Lines.{written_none, written_more}
-use Rattle.windows.proofs.Windows.{joined}
 use Rattle.windows.proofs.join_run.Given as goal
 
 abbrev pub invariant-loop-i : goal.invariant-loop-i

@@ -1,7 +1,6 @@
 -- `windows::last_block` meets its contract. Assumes nothing.
 use Prim.Native.Nat.{◌-◌}
 use native.Mathlib.Omega.{arith}
-use borrow.Author.Rules.{rules}
 use Rattle.windows.proofs.Cuts.{start_le, start_mod}
 use Rattle.windows.proofs.last_block.Goals as goal
 

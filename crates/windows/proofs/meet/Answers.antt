@@ -1,7 +1,6 @@
 -- `windows::meet` meets its contract: all windows are cut off, or the two ends and the whole ones between them. Assumes nothing.
 use Prim.Native.Nat.{◌+◌, ◌≤◌}
 use native.Mathlib.Omega.{arith}
-use borrow.Author.Rules.{rules}
 use Rattle.windows.specs.Line.{Met}
 use Rattle.windows.proofs.Windows.{met_few, meet_done}
 use Rattle.windows.proofs.meet.Goals as goal

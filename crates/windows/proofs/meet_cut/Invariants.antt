@@ -1,11 +1,8 @@
 -- `windows::meet_cut` meets its contract. The invariant: the windows before i are put together. Assumes nothing.
-use mathlib.Core.Path.{◌≡◌, refl}
-use Prim.Native.Nat.{◌+◌, ◌-◌, ◌≤◌}
-use native.Mathlib.Omega.{arith}
-use borrow.Author.Rules.{rules}
-use lib.ListN.{length, set, length-set}
+use mathlib.Core.Path.{◌≡◌}
+use Prim.Native.Nat.{◌-◌, ◌≤◌}
+use lib.ListN.{length}
 use Rattle.windows.specs.Line.{Met}
-use Rattle.windows.proofs.Windows.{met_none, met_few, cut_more}
 use Rattle.windows.proofs.meet_cut.Given as goal
 
 abbrev pub invariant-loop-i : goal.invariant-loop-i

@@ -1,10 +1,9 @@
 -- `windows::meet_whole` meets its contract. The invariant: a is a block's start, and the whole windows before it are put together. Assumes nothing.
 use mathlib.Core.Path.{◌≡◌, ◌∙◌}
-use Prim.Native.Nat.{◌+◌, ◌-◌, ◌≤◌, min}
+use Prim.Native.Nat.{◌+◌, ◌≤◌, min}
 use native.Mathlib.Omega.{arith}
-use borrow.Author.Rules.{rules}
 use lib.ListN.{length-set}
-use Rattle.windows.proofs.Windows.{WholeTo, whole_none, whole_more, met_few}
+use Rattle.windows.proofs.Windows.{whole_none, whole_more, met_few}
 use Rattle.windows.proofs.meet_whole.Goals as goal
 use Rattle.windows.proofs.meet_whole.Goals.{At-loop-a}
 

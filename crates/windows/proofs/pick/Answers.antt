@@ -2,7 +2,6 @@
 use mathlib.Core.Path.{◌∙◌, sym}
 use Prim.Native.Nat.{min}
 use native.Mathlib.Omega.{arith}
-use borrow.Author.Rules.{rules}
 use borrow.Author.Tests.{lt-ltb, le-ltb}
 use Rattle.windows.proofs.Cuts.{pos_of, ne_lt, choose_two, choose_start, choose_end}
 use Rattle.windows.proofs.pick.Goals as goal

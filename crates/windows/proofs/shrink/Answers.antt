@@ -2,7 +2,6 @@
 use mathlib.Core.Path.{◌≡◌}
 use Prim.Native.Nat.{◌+◌}
 use native.Mathlib.Omega.{arith}
-use borrow.Author.Rules.{rules}
 use Rattle.windows.specs.Line.{entry}
 use Rattle.rules.specs.Count.{comparisons, samples}
 use Rattle.rules.proofs.Count.{samples_at_most, zero_count}

@@ -1,14 +1,11 @@
 -- `writer::recover_row` meets its contract: after x turns the run is x pixels long. Assumes nothing.
 use mathlib.Core.Path.{◌≡◌, refl, ap}
-use Prim.Native.Nat.{ℕ, ◌+◌, ◌-◌, ◌*◌, ◌≤◌, ◌<◌}
+use Prim.Native.Nat.{ℕ, ◌+◌, ◌*◌, ◌≤◌, ◌<◌}
 use native.Mathlib.Omega.{arith}
 use lib.ListN.{length, length-set}
-use Rattle.writer.specs.Run.{Run}
-use Rattle.writer.specs.Row.{Scales, Floored, bytes_of, cleared_by}
 use Rattle.writer.proofs.Runs.{run_none, run_to}
 use Rattle.writer.proofs.Recovered.{recover_more}
 use Rattle.writer.proofs.recover_row.Goals as goal
-use Rattle.writer.proofs.recover_row.Goals.{After-loop-x, After-recovered-in-loop-x-2}
 
 pub loop-x-init : goal.loop-x-init
 loop-x-init c = (omega arith, refl, λ T fl sc. run_none _ _ _)

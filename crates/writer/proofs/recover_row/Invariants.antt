@@ -1,12 +1,9 @@
 -- `writer::recover_row` meets its contract: after x turns the run is x pixels long. Assumes nothing.
-use mathlib.Core.Path.{◌≡◌, refl, ap}
-use Prim.Native.Nat.{ℕ, ◌+◌, ◌-◌, ◌*◌, ◌≤◌, ◌<◌}
-use native.Mathlib.Omega.{arith}
-use lib.ListN.{length, length-set}
+use mathlib.Core.Path.{◌≡◌}
+use Prim.Native.Nat.{ℕ, ◌-◌, ◌*◌, ◌≤◌}
+use lib.ListN.{length}
 use Rattle.writer.specs.Run.{Run}
 use Rattle.writer.specs.Row.{Scales, Floored, bytes_of, cleared_by}
-use Rattle.writer.proofs.Runs.{run_none, run_to}
-use Rattle.writer.proofs.Recovered.{recover_more}
 use Rattle.writer.proofs.recover_row.Given as goal
 
 abbrev pub invariant-loop-x : goal.invariant-loop-x

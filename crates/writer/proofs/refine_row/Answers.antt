@@ -1,13 +1,10 @@
 -- `writer::refine_row` meets its contract: after i turns the run is i entries long. Assumes nothing.
 use mathlib.Core.Path.{◌≡◌}
-use Prim.Native.Nat.{◌-◌, ◌≤◌, ◌<◌}
+use Prim.Native.Nat.{◌<◌}
 use native.Mathlib.Omega.{arith}
-use Rattle.writer.specs.Run.{Run}
-use Rattle.writer.specs.Row.{entry_from}
 use Rattle.writer.proofs.Runs.{run_none, run_to, run_more}
 use Rattle.writer.proofs.Refined.{window_asks, entry_is}
 use Rattle.writer.proofs.refine_row.Goals as goal
-use Rattle.writer.proofs.refine_row.Goals.{After-entry_by, After-guide_of}
 
 pub loop-i-init : goal.loop-i-init
 loop-i-init c = (omega arith, run_none _ _ _)

@@ -1,11 +1,7 @@
 -- `writer::refine_row` meets its contract: after i turns the run is i entries long. Assumes nothing.
-use mathlib.Core.Path.{◌≡◌}
-use Prim.Native.Nat.{◌-◌, ◌≤◌, ◌<◌}
-use native.Mathlib.Omega.{arith}
+use Prim.Native.Nat.{◌-◌, ◌≤◌}
 use Rattle.writer.specs.Run.{Run}
 use Rattle.writer.specs.Row.{entry_from}
-use Rattle.writer.proofs.Runs.{run_none, run_to, run_more}
-use Rattle.writer.proofs.Refined.{window_asks, entry_is}
 use Rattle.writer.proofs.refine_row.Given as goal
 
 abbrev pub invariant-loop-i : goal.invariant-loop-i

@@ -1,9 +1,7 @@
 -- `writer::scale_of` meets its contract: a scale that is known, or a new one that is kept. Assumes nothing.
 use native.Mathlib.Omega.{arith}
-use borrow.Author.Rules.{rules}
 use Rattle.writer.proofs.Scaled.{known_more}
 use Rattle.writer.proofs.scale_of.Goals as goal
-use Rattle.writer.proofs.scale_of.Goals.{After-scale-s, Then-known-ne0}
 
 pub returns-then-known-ne0 : goal.returns-then-known-ne0
 returns-then-known-ne0 c =

@@ -1,12 +1,11 @@
 -- `writer::scale_row` meets its contract: after x turns the first x scales are there. Assumes nothing.
-use mathlib.Core.Path.{◌≡◌, refl, sym, ◌∙◌}
-use Prim.Native.Nat.{◌-◌, ◌≤◌, ◌<◌}
+use mathlib.Core.Path.{◌≡◌, refl, ◌∙◌}
+use Prim.Native.Nat.{◌<◌}
 use native.Mathlib.Omega.{arith}
-use lib.ListN.{length, length-set}
-use Rattle.writer.specs.Row.{Known, Scales, floored_at}
+use lib.ListN.{length-set}
+use Rattle.writer.specs.Row.{floored_at}
 use Rattle.writer.proofs.Scaled.{scales_none, scales_more}
 use Rattle.writer.proofs.scale_row.Goals as goal
-use Rattle.writer.proofs.scale_row.Goals.{After-floored, After-loop-x, After-shared_slice_known-in-loop-x-1, After-slice_known-2-1, After-slice_known-in-loop-x-1}
 
 pub loop-x-init : goal.loop-x-init
 loop-x-init c =

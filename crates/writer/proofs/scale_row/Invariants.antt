@@ -1,10 +1,8 @@
 -- `writer::scale_row` meets its contract: after x turns the first x scales are there. Assumes nothing.
-use mathlib.Core.Path.{◌≡◌, refl, sym, ◌∙◌}
-use Prim.Native.Nat.{◌-◌, ◌≤◌, ◌<◌}
-use native.Mathlib.Omega.{arith}
-use lib.ListN.{length, length-set}
+use mathlib.Core.Path.{◌≡◌}
+use Prim.Native.Nat.{◌-◌, ◌≤◌}
+use lib.ListN.{length}
 use Rattle.writer.specs.Row.{Known, Scales, floored_at}
-use Rattle.writer.proofs.Scaled.{scales_none, scales_more}
 use Rattle.writer.proofs.scale_row.Given as goal
 
 abbrev pub invariant-loop-x : goal.invariant-loop-x

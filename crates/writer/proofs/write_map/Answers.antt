@@ -6,22 +6,17 @@ use native.Mathlib.Omega.{arith}
 use mathlib.Core.List.{List}
 use lib.ListN.{length}
 use lib.IntN.{ℤ}
-use Rattle.rules.specs.Window.{Plane, Shown}
-use Rattle.rules.specs.Light.{at}
-use Rattle.rules.specs.Transmission.{Line}
 use Rattle.rules.specs.Buffers.{pixels}
 use Rattle.planes.specs.View.{whole, rect_of, row_start}
-use Rattle.planes.specs.Stage.{Lined, box_seen}
+use Rattle.planes.specs.Stage.{box_seen}
 use Rattle.planes.proofs.Tails.{rest, rest_length}
 use Rattle.sums.specs.Sum.{Summable}
 use Rattle.sums.proofs.Lent.{zeros}
-use Rattle.writer.specs.Write.{entry_over}
-use Rattle.writer.proofs.Parts.{Upto}
-use Rattle.writer.proofs.Rows.{rows, entry_in, entries_none, entries_more, upto_entries}
-use Rattle.writer.proofs.Sliding.{slopes_summable, offsets_summable, Sliding, sliding_first}
+use Rattle.writer.proofs.Rows.{entries_none, entries_more, upto_entries}
+use Rattle.writer.proofs.Sliding.{slopes_summable, offsets_summable, sliding_first}
 use Rattle.writer.proofs.Refined.{RowRead, windows, row_entries, map_held}
 use Rattle.writer.proofs.write_map.Goals as goal
-use Rattle.writer.proofs.write_map.Goals.{After-counts-1, After-loop-y, After-offsets-2-1, After-over-1, After-over-in-loop-y-2-1, After-row_start-p, After-slice_known-in-loop-y-1, After-two-1, After-two-in-loop-y-1, Start}
+use Rattle.writer.proofs.write_map.Goals.{After-row_start-p, Start}
 
 -- what is given: the lines fit in the work area, and the view in the plane
 given : (s : Start) →

@@ -1,25 +1,15 @@
 -- `writer::write_map` meets its contract: after y turns the first y rows are in the map. Assumes nothing.
-use mathlib.Core.Path.{◌≡◌, refl, sym, ap₂, ◌∙◌}
-use Prim.Native.Nat.{ℕ, ◌+◌, ◌-◌, ◌*◌, ◌^◌, ◌≤◌, ◌<◌}
-use native.Mathlib.Nat.{add_assoc}
-use native.Mathlib.Omega.{arith}
-use mathlib.Core.List.{List}
-use lib.ListN.{length}
-use lib.IntN.{ℤ}
+use Prim.Native.Nat.{◌-◌, ◌≤◌}
 use Rattle.rules.specs.Window.{Plane, Shown}
 use Rattle.rules.specs.Light.{at}
 use Rattle.rules.specs.Transmission.{Line}
 use Rattle.rules.specs.Buffers.{pixels}
-use Rattle.planes.specs.View.{whole, rect_of, row_start}
+use Rattle.planes.specs.View.{whole, rect_of}
 use Rattle.planes.specs.Stage.{Lined, box_seen}
-use Rattle.planes.proofs.Tails.{rest, rest_length}
-use Rattle.sums.specs.Sum.{Summable}
-use Rattle.sums.proofs.Lent.{zeros}
 use Rattle.writer.specs.Write.{entry_over}
 use Rattle.writer.proofs.Parts.{Upto}
-use Rattle.writer.proofs.Rows.{rows, entry_in, entries_none, entries_more, upto_entries}
-use Rattle.writer.proofs.Sliding.{slopes_summable, offsets_summable, Sliding, sliding_first}
-use Rattle.writer.proofs.Refined.{RowRead, windows, row_entries, map_held}
+use Rattle.writer.proofs.Rows.{rows, entry_in}
+use Rattle.writer.proofs.Sliding.{Sliding}
 use Rattle.writer.proofs.write_map.Given as goal
 
 abbrev pub invariant-loop-y : goal.invariant-loop-y

@@ -3,17 +3,13 @@ use mathlib.Core.Path.{◌≡◌, refl, sym, ◌∙◌}
 use Prim.Native.Nat.{ℕ, ◌+◌, ◌-◌, ◌*◌, ◌≤◌, ◌<◌}
 use native.Mathlib.Omega.{arith}
 use lib.ListN.{length, get_or}
-use Rattle.rules.specs.Buffers.{pixels, values, byte_at}
 use Rattle.planes.specs.View.{whole, rect_of, row_start}
 use Rattle.planes.proofs.Tails.{rest, rest_length, rest_at}
-use Rattle.writer.specs.Row.{Known}
-use Rattle.writer.specs.Write.{recovered_by}
-use Rattle.writer.proofs.Parts.{Upto}
-use Rattle.writer.proofs.Rows.{rows, byte_in, bytes_none, bytes_more, upto_bytes}
+use Rattle.writer.proofs.Rows.{bytes_none, bytes_more, upto_bytes}
 use Rattle.writer.proofs.Scaled.{known_none}
 use Rattle.writer.proofs.Recovered.{row_floored, row_bytes}
 use Rattle.writer.proofs.write_picture.Goals as goal
-use Rattle.writer.proofs.write_picture.Goals.{After-loop-y, After-row_start-from, After-scales-in-loop-y-2-1, After-shared_slice_known-2-1, After-slice_known-in-loop-y-1, After-table-1}
+use Rattle.writer.proofs.write_picture.Goals.{After-row_start-from}
 
 -- the row of this turn lies in the frame, and the picture has kept its length
 turn : (r : After-row_start-from) →

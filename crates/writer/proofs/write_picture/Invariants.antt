@@ -1,17 +1,13 @@
 -- `writer::write_picture` meets its contract: after y turns the first y rows are in the picture. Assumes nothing.
-use mathlib.Core.Path.{◌≡◌, refl, sym, ◌∙◌}
-use Prim.Native.Nat.{ℕ, ◌+◌, ◌-◌, ◌*◌, ◌≤◌, ◌<◌}
-use native.Mathlib.Omega.{arith}
-use lib.ListN.{length, get_or}
+use mathlib.Core.Path.{◌≡◌}
+use Prim.Native.Nat.{◌-◌, ◌≤◌}
+use lib.ListN.{length}
 use Rattle.rules.specs.Buffers.{pixels, values, byte_at}
-use Rattle.planes.specs.View.{whole, rect_of, row_start}
-use Rattle.planes.proofs.Tails.{rest, rest_length, rest_at}
+use Rattle.planes.specs.View.{whole, rect_of}
 use Rattle.writer.specs.Row.{Known}
 use Rattle.writer.specs.Write.{recovered_by}
 use Rattle.writer.proofs.Parts.{Upto}
-use Rattle.writer.proofs.Rows.{rows, byte_in, bytes_none, bytes_more, upto_bytes}
-use Rattle.writer.proofs.Scaled.{known_none}
-use Rattle.writer.proofs.Recovered.{row_floored, row_bytes}
+use Rattle.writer.proofs.Rows.{rows, byte_in}
 use Rattle.writer.proofs.write_picture.Given as goal
 
 abbrev pub invariant-loop-y : goal.invariant-loop-y
