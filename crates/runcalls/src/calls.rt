@@ -1,6 +1,8 @@
 // The six calls on lent parts of the buffers.
 use crate::line::{at_most, past};
 use rules::{Rect, Rgb, Settings, Size};
+use std::io;
+use std::io::Write;
 use telling::{
     say_answer, say_band, say_budget, say_bytes, say_entries, say_found, say_kinds, say_outcome,
 };
@@ -40,25 +42,36 @@ fn rect(args: &[u64; 24]) -> Rect {
     }
 }
 
-fn light(args: &[u64; 24], mask: &[u8], frame: &[u8], work: &mut [i64]) {
-    say_found(haze::light(size(args), settings(args), mask, frame, work));
+fn light(
+    out: &mut impl Write,
+    args: &[u64; 24],
+    mask: &[u8],
+    frame: &[u8],
+    work: &mut [i64],
+) -> io::Result<()> {
+    say_found(
+        out,
+        haze::light(size(args), settings(args), mask, frame, work),
+    )
 }
 
 fn clear(
+    out: &mut impl Write,
     args: &[u64; 24],
     mask: &[u8],
     frame: &[u8],
     map: &mut [u16],
     picture: &mut [u8],
     work: &mut [i64],
-) {
+) -> io::Result<()> {
     let z = size(args);
     let k = settings(args);
     let a = light_given(args);
-    say_outcome(haze::clear(z, k, a, mask, frame, map, picture, work));
+    say_outcome(out, haze::clear(z, k, a, mask, frame, map, picture, work))
 }
 
 fn replace(
+    out: &mut impl Write,
     args: &[u64; 24],
     new: &[u8],
     mask: &[u8],
@@ -66,29 +79,42 @@ fn replace(
     map: &mut [u16],
     picture: &mut [u8],
     work: &mut [i64],
-) {
+) -> io::Result<()> {
     let z = size(args);
     let k = settings(args);
     let a = light_given(args);
     let c = rect(args);
-    say_outcome(haze::replace(z, k, a, c, new, mask, frame, map, picture, work));
+    say_outcome(
+        out,
+        haze::replace(z, k, a, c, new, mask, frame, map, picture, work),
+    )
 }
 
-fn haze(args: &[u64; 24], frame: &[u8], map: &[u16], picture: &mut [u8]) {
-    say_answer(haze::haze(size(args), light_given(args), frame, map, picture));
+fn haze(
+    out: &mut impl Write,
+    args: &[u64; 24],
+    frame: &[u8],
+    map: &[u16],
+    picture: &mut [u8],
+) -> io::Result<()> {
+    say_answer(
+        out,
+        haze::haze(size(args), light_given(args), frame, map, picture),
+    )
 }
 
-fn band(args: &[u64; 24], map: &[u16]) {
+fn band(out: &mut impl Write, args: &[u64; 24], map: &[u16]) -> io::Result<()> {
     let c = rect(args);
-    say_band(haze::band(size(args), map, c.x, c.y));
+    say_band(out, haze::band(size(args), map, c.x, c.y))
 }
 
-fn budget(args: &[u64; 24]) {
-    say_budget(haze::comparisons(size(args), args[3] as usize));
+fn budget(out: &mut impl Write, args: &[u64; 24]) -> io::Result<()> {
+    say_budget(out, haze::comparisons(size(args), args[3] as usize))
 }
 
 // The call, on the lent parts.
 fn call(
+    out: &mut impl Write,
     args: &[u64; 24],
     mask: &[u8],
     frame: &mut [u8],
@@ -96,20 +122,21 @@ fn call(
     map: &mut [u16],
     picture: &mut [u8],
     work: &mut [i64],
-) {
+) -> io::Result<()> {
     let command = args[0];
     match command {
-        1 => light(args, mask, frame, work),
-        3 => replace(args, new, mask, frame, map, picture, work),
-        4 => haze(args, frame, map, picture),
-        5 => band(args, map),
-        8 => budget(args),
-        _ => clear(args, mask, frame, map, picture, work),
+        1 => light(out, args, mask, frame, work),
+        3 => replace(out, args, new, mask, frame, map, picture, work),
+        4 => haze(out, args, frame, map, picture),
+        5 => band(out, args, map),
+        8 => budget(out, args),
+        _ => clear(out, args, mask, frame, map, picture, work),
     }
 }
 
 // The call, and what the lent parts hold after it.
 fn report(
+    out: &mut impl Write,
     args: &[u64; 24],
     mask: &[u8],
     frame: &mut [u8],
@@ -117,19 +144,20 @@ fn report(
     map: &mut [u16],
     picture: &mut [u8],
     work: &mut [i64],
-) {
-    call(args, mask, frame, new, map, picture, work);
-    say_bytes(mask);
-    say_bytes(frame);
-    say_bytes(new);
-    say_entries(map);
-    say_bytes(picture);
-    say_kinds(work);
-    io::write_all(1, b"\n");
+) -> io::Result<()> {
+    call(out, args, mask, frame, new, map, picture, work)?;
+    say_bytes(out, mask)?;
+    say_bytes(out, frame)?;
+    say_bytes(out, new)?;
+    say_entries(out, map)?;
+    say_bytes(out, picture)?;
+    say_kinds(out, work)?;
+    out.write_all(b"\n")
 }
 
 // Lends as much of each buffer as asked for: of map and picture from any entry on, of the others from the first.
 pub(crate) fn lend(
+    out: &mut impl Write,
     args: &[u64; 24],
     mask: &[u8],
     frame: &mut [u8],
@@ -137,7 +165,7 @@ pub(crate) fn lend(
     map: &mut [u16],
     picture: &mut [u8],
     work: &mut [i64],
-) {
+) -> io::Result<()> {
     let s = at_most(args, 23, mask.len());
     let f = at_most(args, 16, frame.len());
     let n = at_most(args, 17, new.len());
@@ -147,6 +175,7 @@ pub(crate) fn lend(
     let p_end = past(args, 19, p, picture.len());
     let q = at_most(args, 20, work.len());
     report(
+        out,
         args,
         &mask[..s],
         &mut frame[..f],
@@ -154,5 +183,5 @@ pub(crate) fn lend(
         &mut map[m..m_end],
         &mut picture[p..p_end],
         &mut work[..q],
-    );
+    )
 }

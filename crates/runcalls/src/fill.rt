@@ -89,11 +89,9 @@ pub(crate) fn bytes(b: &mut [u8], args: &[u64; 24]) {
     let from = at_most(args, 2, b.len());
     let end = past(args, 3, from, b.len());
     let mut state = p.seed;
-    let mut i = from;
-    while i < end {
+    for i in from..end {
         state = next(state);
         b[i] = byte(value(p, (i - from) as u64, state));
-        i += 1;
     }
 }
 
@@ -103,11 +101,9 @@ pub(crate) fn entries(m: &mut [u16], args: &[u64; 24]) {
     let from = at_most(args, 2, m.len());
     let end = past(args, 3, from, m.len());
     let mut state = p.seed;
-    let mut i = from;
-    while i < end {
+    for i in from..end {
         state = next(state);
         m[i] = entry(value(p, (i - from) as u64, state));
-        i += 1;
     }
 }
 
@@ -117,10 +113,8 @@ pub(crate) fn numbers(work: &mut [i64], args: &[u64; 24]) {
     let from = at_most(args, 2, work.len());
     let end = past(args, 3, from, work.len());
     let mut state = p.seed;
-    let mut i = from;
-    while i < end {
+    for i in from..end {
         state = next(state);
         work[i] = unlike_zero(value(p, (i - from) as u64, state));
-        i += 1;
     }
 }

@@ -46,10 +46,8 @@ fn step(args: &mut [u64; 24], t: Reading, b: u8) -> Reading {
 pub(crate) fn numbers(text: &[u8]) -> [u64; 24] {
     let mut args = [0u64; 24];
     let mut t = Reading { value: 0, count: 0 };
-    let mut i = 0;
-    while i < text.len() {
-        t = step(&mut args, t, text[i]);
-        i += 1;
+    for b in text {
+        t = step(&mut args, t, *b);
     }
     args
 }

@@ -9,12 +9,16 @@
 // first entry and how many, and those of `fill::Pattern`; for the mask how many bytes, and those of `mask::Shown`.
 #![tactic(auto)]
 
-ghost use Rattle.io.specs.Counts.{IsPrefixLen};
+ghost use Rattle.std.specs.Prelude.{◌≤◌, IfOk, vec_len};
 
 mod calls;
 mod fill;
 mod line;
 mod mask;
+
+use std::alloc::Global;
+use std::io;
+use std::io::{BufWriter, Read, Write};
 
 // The buffers hold a frame of 130 by 130 pixels with its work area and mask, two maps and two pictures, each with one entry more.
 const PIXELS: usize = 50701;
@@ -40,6 +44,7 @@ fn filled(args: &[u64; 24]) -> u64 {
 
 // Does what one line says.
 fn act(
+    out: &mut impl Write,
     args: &[u64; 24],
     mask: &mut [u8],
     frame: &mut [u8],
@@ -47,7 +52,7 @@ fn act(
     map: &mut [u16],
     picture: &mut [u8],
     work: &mut [i64],
-) {
+) -> io::Result<()> {
     match filled(args) {
         0 => fill::bytes(frame, args),
         1 => fill::bytes(new, args),
@@ -55,12 +60,14 @@ fn act(
         3 => fill::bytes(picture, args),
         4 => fill::numbers(work, args),
         5 => mask::show(mask, args),
-        _ => calls::lend(args, mask, frame, new, map, picture, work),
+        _ => return calls::lend(out, args, mask, frame, new, map, picture, work),
     }
+    Ok(())
 }
 
 // Does what each line of the text says, one after the other.
 fn run(
+    out: &mut impl Write,
     text: &[u8],
     mask: &mut [u8; MASK],
     frame: &mut [u8; PIXELS],
@@ -68,39 +75,46 @@ fn run(
     map: &mut [u16; MAPS],
     picture: &mut [u8; PICTURES],
     work: &mut [i64; WORK],
-) {
+) -> io::Result<()> {
     let mut at = 0;
     while at < text.len() {
         let end = fields::end_of(text, at, b'\n');
         let next = fields::after(text, end);
         let args = line::numbers(&text[at..next]);
-        act(&args, mask, frame, new, map, picture, work);
+        act(out, &args, mask, frame, new, map, picture, work)?;
         at = next;
     }
+    Ok(())
 }
 
-fn read(text: &mut [u8; 524288]) -> usize
-    ensures { IsPrefixLen result text.new }
+// What is left to read, up to 524,288 bytes.
+fn read(alloc: Global, from: impl Read + Drop) -> io::Result<Vec<u8>>
+    ensures { IfOk result (λ text. vec_len text ≤ 524288) }
 {
-    io::read_full(0, text)
+    let mut text = Vec::new(alloc);
+    from.take(524288).read_to_end(&mut text)?;
+    text.truncate(524288);
+    Ok(text)
 }
 
-fn main() {
-    let mut text = [0u8; 524288];
+fn main(rt: HostRuntime) -> io::Result<()> {
+    let text = read(rt.alloc(), rt.reader())?;
+    let mut out = BufWriter::new(rt.alloc(), io::writer(&rt))?;
     let mut mask = [0u8; MASK];
     let mut frame = [0u8; PIXELS];
     let mut new = [0u8; PIXELS];
     let mut map = [0u16; MAPS];
     let mut picture = [0u8; PICTURES];
     let mut work = [0i64; WORK];
-    let n = read(&mut text);
     run(
-        &text[..n],
+        &mut out,
+        &text,
         &mut mask,
         &mut frame,
         &mut new,
         &mut map,
         &mut picture,
         &mut work,
-    );
+    )?;
+    out.flush()
 }

@@ -78,10 +78,8 @@ pub(crate) fn show(mask: &mut [u8], args: &[u64; 24]) {
     let p = shown_given(args);
     let end = at_most(args, 1, mask.len());
     let mut state = p.seed;
-    let mut i = 0;
-    while i < end {
+    for i in 0..end {
         state = next(state);
         mask[i] = value(p, i as u64, state);
-        i += 1;
     }
 }

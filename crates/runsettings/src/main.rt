@@ -2,17 +2,26 @@
 // A line for each call: the number of the refusal, a tab, and the part that is returned.
 #![tactic(auto)]
 
-ghost use Rattle.io.specs.Counts.{IsPrefixLen};
+ghost use Rattle.std.specs.Prelude.{◌≤◌, IfOk, vec_len};
 
-fn answer<'a>(field: &'a [u8], house: &'a [u8], name: &[u8]) {
-    io::print_decimal(1, settings::setting_refusal(field, house, name) as u64);
-    io::write_all(1, b"\t");
-    io::write_all(1, settings::setting(field, house, name));
-    io::write_all(1, b"\n");
+use std::alloc::Global;
+use std::io;
+use std::io::{BufWriter, Read, Write};
+
+fn answer<'a>(
+    out: &mut impl Write,
+    field: &'a [u8],
+    house: &'a [u8],
+    name: &[u8],
+) -> io::Result<()> {
+    let number = settings::setting_refusal(field, house, name);
+    write!(out, "{number}\t")?;
+    out.write_all(settings::setting(field, house, name))?;
+    out.write_all(b"\n")
 }
 
 // Answers each call, one after the other.
-fn run(input: &[u8]) {
+fn run(out: &mut impl Write, input: &[u8]) -> io::Result<()> {
     let mut at = 0;
     while at < input.len() {
         let field = fields::end_of(input, at, 30);
@@ -21,22 +30,29 @@ fn run(input: &[u8]) {
         let third = fields::after(input, house);
         let name = fields::end_of(input, third, 30);
         answer(
+            out,
             &input[at..field],
             &input[second..house],
             &input[third..name],
-        );
+        )?;
         at = fields::after(input, name);
     }
+    Ok(())
 }
 
-fn read(input: &mut [u8; 262144]) -> usize
-    ensures { IsPrefixLen result input.new }
+// What is left to read, up to 262,144 bytes.
+fn read(alloc: Global, from: impl Read + Drop) -> io::Result<Vec<u8>>
+    ensures { IfOk result (λ input. vec_len input ≤ 262144) }
 {
-    io::read_full(0, input)
+    let mut input = Vec::new(alloc);
+    from.take(262144).read_to_end(&mut input)?;
+    input.truncate(262144);
+    Ok(input)
 }
 
-fn main() {
-    let mut input = [0u8; 262144];
-    let n = read(&mut input);
-    run(&input[..n]);
+fn main(rt: HostRuntime) -> io::Result<()> {
+    let input = read(rt.alloc(), rt.reader())?;
+    let mut out = BufWriter::new(rt.alloc(), io::writer(&rt))?;
+    run(&mut out, &input)?;
+    out.flush()
 }

@@ -2,33 +2,43 @@
 // every answer is followed by a line that holds `=` alone.
 #![tactic(auto)]
 
-ghost use Rattle.io.specs.Counts.{IsPrefixLen};
+ghost use Rattle.std.specs.Prelude.{◌≤◌, IfOk, vec_len};
 
-fn answer(input: &[u8]) {
-    let mut out = [0u8; 12690];
-    let n = text::answer(input, &mut out);
-    io::write_all(1, &out[..n]);
-    io::write_all(1, b"=\n");
+use std::alloc::Global;
+use std::io;
+use std::io::{BufWriter, Read, Write};
+
+fn answer(out: &mut impl Write, input: &[u8]) -> io::Result<()> {
+    let mut lent = [0u8; 12690];
+    let n = text::answer(input, &mut lent);
+    out.write_all(&lent[..n])?;
+    out.write_all(b"=\n")
 }
 
 // Answers each text, one after the other.
-fn run(input: &[u8]) {
+fn run(out: &mut impl Write, input: &[u8]) -> io::Result<()> {
     let mut at = 0;
     while at < input.len() {
         let end = fields::end_of(input, at, 30);
-        answer(&input[at..end]);
+        answer(out, &input[at..end])?;
         at = fields::after(input, end);
     }
+    Ok(())
 }
 
-fn read(input: &mut [u8; 524288]) -> usize
-    ensures { IsPrefixLen result input.new }
+// What is left to read, up to 524,288 bytes.
+fn read(alloc: Global, from: impl Read + Drop) -> io::Result<Vec<u8>>
+    ensures { IfOk result (λ input. vec_len input ≤ 524288) }
 {
-    io::read_full(0, input)
+    let mut input = Vec::new(alloc);
+    from.take(524288).read_to_end(&mut input)?;
+    input.truncate(524288);
+    Ok(input)
 }
 
-fn main() {
-    let mut input = [0u8; 524288];
-    let n = read(&mut input);
-    run(&input[..n]);
+fn main(rt: HostRuntime) -> io::Result<()> {
+    let input = read(rt.alloc(), rt.reader())?;
+    let mut out = BufWriter::new(rt.alloc(), io::writer(&rt))?;
+    run(&mut out, &input)?;
+    out.flush()
 }
