@@ -3,7 +3,6 @@ use Rattle.std.specs.Prelude.{◌≡◌, Bool, cond, ◌&&◌, ◌||◌, List, [
 use Rattle.rules.specs.Shape.{Shape, described}
 use Rattle.rules.specs.declared.Size.{Size}
 use Rattle.rules.specs.declared.Settings.{Settings}
-use Rattle.rules.specs.declared.Rgb.{Rgb}
 use Rattle.rules.specs.declared.Finding.{Finding}
 use Rattle.rules.specs.Window.{Plane, from, total}
 use Rattle.rules.specs.Light.{darkest, dark, at, guide, count, keep, best, brightest, lifted, light}

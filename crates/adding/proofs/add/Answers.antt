@@ -1,13 +1,12 @@
 -- `adding::add` meets its contract. The loop's invariant: the bytes of the pixels passed are those of the hazed frame. Assumes nothing.
 use mathlib.Core.Path.{◌≡◌}
-use Prim.Native.Nat.{◌+◌, ◌-◌, ◌*◌, ◌≤◌}
+use Prim.Native.Nat.{◌+◌, ◌*◌, ◌≤◌}
 use native.Mathlib.Omega.{arith}
 use borrow.Author.Rules.{rules}
 use lib.ListN.{length, length-set}
 use Rattle.rules.specs.Shape.{described}
-use Rattle.adding.proofs.Laws.{Added, added_none, added_more, added_all}
+use Rattle.adding.proofs.Laws.{added_none, added_more, added_all}
 use Rattle.adding.proofs.add.Goals as goal
-use Rattle.adding.proofs.add.Goals.{After-hazed, After-hazed-in-loop-p, After-hazed-in-loop-p-2, After-loop-p, After-shared_slice_known-in-loop-p-1, After-shared_slice_known-in-loop-p-1-unread, After-shared_slice_known-in-loop-p-2-1, After-shared_slice_known-in-loop-p-2-1-unread, After-shared_slice_known-in-loop-p-3-1, After-shared_slice_known-in-loop-p-3-1-unread, After-shared_slice_known-in-loop-p-4-1, After-shared_slice_known-in-loop-p-4-1-unread, After-slice_known-1, In-loop-p}
 
 pub loop-p-init : goal.loop-p-init
 loop-p-init c = (omega arith, search rules, added_none _ _ _ _)

@@ -1,11 +1,8 @@
 -- `adding::add` meets its contract. The loop's invariant: the bytes of the pixels passed are those of the hazed frame. Assumes nothing.
 use mathlib.Core.Path.{◌≡◌}
-use Prim.Native.Nat.{◌+◌, ◌-◌, ◌*◌, ◌≤◌}
-use native.Mathlib.Omega.{arith}
-use borrow.Author.Rules.{rules}
-use lib.ListN.{length, length-set}
-use Rattle.rules.specs.Shape.{described}
-use Rattle.adding.proofs.Laws.{Added, added_none, added_more, added_all}
+use Prim.Native.Nat.{◌-◌, ◌≤◌}
+use lib.ListN.{length}
+use Rattle.adding.proofs.Laws.{Added}
 use Rattle.adding.proofs.add.Given as goal
 
 abbrev pub invariant-loop-p : goal.invariant-loop-p

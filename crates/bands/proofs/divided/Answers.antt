@@ -3,7 +3,6 @@ use mathlib.Core.Path.{refl}
 use Rattle.rules.specs.Picture.{quotient}
 use Rattle.rules.proofs.Doubles.{in_float_lem}
 use Rattle.bands.proofs.divided.Goals as goal
-use Rattle.bands.proofs.divided.Goals.{After-row_known-1, After-row_known-2-1}
 
 pub int_to_float-result : goal.int_to_float-result
 int_to_float-result c = in_float_lem _ c.requires.0

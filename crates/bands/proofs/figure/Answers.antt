@@ -4,12 +4,11 @@ use mathlib.Core.List.{List}
 use Prim.Native.Nat.{ℕ, ◌-◌, ◌*◌, ◌≤◌}
 use native.Mathlib.Omega.{arith}
 use lib.ListN.{length, take, drop}
-use borrow.Author.Rules.{rules}
 use Rattle.rules.specs.Window.{total, least}
 use Rattle.rules.specs.Picture.{figure_of, figure as figure_in}
 use Rattle.bands.proofs.Laws.{Ends, ends, part_le, quotient_of}
 use Rattle.bands.proofs.figure.Goals as goal
-use Rattle.bands.proofs.figure.Goals.{After-band-1, After-divided-least, After-divided-mean, After-least_of, After-shared_slice_known-1, After-sum_of, Start}
+use Rattle.bands.proofs.figure.Goals.{Start}
 
 module _ (s : Start) where
   abbrev start : ℕ

@@ -1,14 +1,12 @@
 -- `bands::least_of` meets its contract. The loop's invariant: the least so far, with that of the entries left, is the least of all.
 -- Assumes nothing.
 use mathlib.Core.Path.{◌≡◌}
-use Prim.Native.Nat.{◌-◌, ◌≤◌, ◌<◌, min}
+use Prim.Native.Nat.{◌<◌, min}
 use lib.ListN.{length}
 use native.Mathlib.Omega.{arith}
-use borrow.Author.Rules.{rules}
-use Rattle.rules.proofs.Front.{Front, front_none, front_more, front_all}
+use Rattle.rules.proofs.Front.{front_none, front_more, front_all}
 use Rattle.bands.proofs.Laws.{min_assoc, least_le}
 use Rattle.bands.proofs.least_of.Goals as goal
-use Rattle.bands.proofs.least_of.Goals.{After-lesser_u16-low, After-loop-i, After-shared_slice_known-1, After-shared_slice_known-in-loop-i-1, After-shared_slice_known-in-loop-i-1-unread, In-loop-i}
 
 pub loop-i-init : goal.loop-i-init
 loop-i-init c =

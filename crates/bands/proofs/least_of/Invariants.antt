@@ -1,12 +1,8 @@
 -- `bands::least_of` meets its contract. The loop's invariant: the least so far, with that of the entries left, is the least of all.
 -- Assumes nothing.
-use mathlib.Core.Path.{◌≡◌}
-use Prim.Native.Nat.{◌-◌, ◌≤◌, ◌<◌, min}
+use Prim.Native.Nat.{◌-◌, ◌≤◌, min}
 use lib.ListN.{length}
-use native.Mathlib.Omega.{arith}
-use borrow.Author.Rules.{rules}
-use Rattle.rules.proofs.Front.{Front, front_none, front_more, front_all}
-use Rattle.bands.proofs.Laws.{min_assoc, least_le}
+use Rattle.rules.proofs.Front.{Front}
 use Rattle.bands.proofs.least_of.Given as goal
 
 abbrev pub invariant-loop-i : goal.invariant-loop-i

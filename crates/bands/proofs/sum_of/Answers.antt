@@ -1,13 +1,11 @@
 -- `bands::sum_of` meets its contract. The loop's invariant: the sum so far, with that of the entries left, is the sum of all. Assumes nothing.
 use mathlib.Core.Path.{◌≡◌}
-use Prim.Native.Nat.{◌+◌, ◌-◌, ◌*◌, ◌≤◌, ◌<◌}
+use Prim.Native.Nat.{◌+◌, ◌<◌}
 use lib.ListN.{length}
 use native.Mathlib.Omega.{arith}
-use borrow.Author.Rules.{rules}
-use Rattle.rules.proofs.Front.{Front, front_none, front_more, front_all}
+use Rattle.rules.proofs.Front.{front_none, front_more, front_all}
 use Rattle.bands.proofs.Laws.{plus_assoc}
 use Rattle.bands.proofs.sum_of.Goals as goal
-use Rattle.bands.proofs.sum_of.Goals.{After-loop-i, After-shared_slice_known-1, After-shared_slice_known-1-unread, In-loop-i, Start}
 
 pub loop-i-init : goal.loop-i-init
 loop-i-init c = (omega arith, omega arith, front_none ◌+◌ (λ t. t) 0 c.args.band.now (omega arith))

@@ -3,7 +3,6 @@ use mathlib.Core.Path.{sym, ap}
 use borrow.Author.Rules.{rules}
 use Rattle.rules.specs.Promise.{band_said}
 use Rattle.boundary.proofs.figured.Goals as goal
-use Rattle.boundary.proofs.figured.Goals.{In-Figure, In-Refused}
 
 pub returns-in-Figure : goal.returns-in-Figure
 returns-in-Figure c = let e = c.in-Figure.is in (sym (ap band_said e), rw e)

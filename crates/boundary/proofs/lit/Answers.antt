@@ -3,7 +3,6 @@ use mathlib.Core.Path.{sym, ap}
 use borrow.Author.Rules.{rules}
 use Rattle.rules.specs.Promise.{found_said}
 use Rattle.boundary.proofs.lit.Goals as goal
-use Rattle.boundary.proofs.lit.Goals.{After-lights-1, In-Refused}
 
 pub returns-in-Light : goal.returns-in-Light
 returns-in-Light c = let e = c.in-Light.is in (sym (ap found_said e), rw e)

@@ -4,7 +4,6 @@ use mathlib.Core.Bool.{true, false}
 use Prim.Native.Nat.{ℕ, ◌*◌, ◌≤◌, ◌<◌}
 use native.Mathlib.Nat.{mul-le-mul}
 use native.Mathlib.Omega.{arith}
-use borrow.Author.Rules.{rules}
 use borrow.Author.Tests.{lt-ltb, le-ltb}
 use Rattle.rules.specs.declared.Size.{Size}
 use Rattle.rules.specs.Shape.{described}
@@ -15,7 +14,7 @@ use Rattle.rules.specs.Promise.{Budgets}
 use Rattle.rules.proofs.Good.{size_good}
 use Rattle.rules.proofs.Count.{samples_at_most}
 use Rattle.budget.proofs.comparisons.Goals as goal
-use Rattle.budget.proofs.comparisons.Goals.{After-line, After-line-2, After-struct_known-1, After-struct_known-2-1, Else-s-gt30, Else-wrong_size, Start, Then-s-gt30, Then-wrong_size}
+use Rattle.budget.proofs.comparisons.Goals.{After-line, After-line-2, Else-wrong_size}
 
 -- a size that is refused, a radius that is, and neither
 no_size : (z : Size) (s : ℕ) → bad_size z ≡ true → Budgets z s 0

@@ -1,10 +1,8 @@
 -- `budget::line` meets its contract: by the closed form of the count. Assumes nothing.
 use native.Mathlib.Nat.{lt_of_le_of_lt, div-mul-le_self}
 use native.Mathlib.Omega.{arith}
-use borrow.Author.Rules.{rules}
 use Rattle.budget.proofs.Closed.{counted}
 use Rattle.budget.proofs.line.Goals as goal
-use Rattle.budget.proofs.line.Goals.{After-less, After-lesser_usize, Start}
 
 pub overflow_mul-full : goal.overflow_mul-full
 overflow_mul-full c = record { fits = lt_of_le_of_lt (div-mul-le_self _ _) (omega arith) }

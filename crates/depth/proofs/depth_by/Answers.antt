@@ -1,17 +1,15 @@
 -- `depth::depth_by` meets its contract. The loop's invariant: the depth is one of the numbers from `at` to `at` + `left`. Assumes nothing.
 use mathlib.Core.Path.{◌≡◌, ap}
-use mathlib.Core.Logic.{⊎_elim}
 use mathlib.Core.List.{List}
-use Prim.Native.Nat.{ℕ, ◌+◌, ◌-◌, ◌*◌, ◌/◌, ◌≤◌}
+use Prim.Native.Nat.{ℕ, ◌+◌, ◌-◌, ◌*◌, ◌/◌}
 use native.Mathlib.Omega.{arith}
-use borrow.Author.Rules.{rules}
 use lib.ListN.{length, get_or}
 use Rattle.depth.specs.Table.{thresholds, depth_of}
 use Rattle.depth.proofs.Place.{no_later, later}
 use Rattle.depth.proofs.Table.{count, falling}
 use Rattle.depth.proofs.Meaning.{bounds}
 use Rattle.depth.proofs.depth_by.Goals as goal
-use Rattle.depth.proofs.depth_by.Goals.{then-table-middle, else-table-middle, After-loop-left, After-shared_slice_known-1, After-shared_slice_known-1-unread, In-loop-left, Joined-table-middle, Start, Then-table-middle}
+use Rattle.depth.proofs.depth_by.Goals.{then-table-middle, else-table-middle}
 
 pub loop-left-init : goal.loop-left-init
 loop-left-init c = let b = (bounds c.args.t).most in let e = ap length c.requires in (omega arith, omega (arith, count), omega (arith, count))
@@ -30,7 +28,7 @@ loop-left-preserved c =
     let k = l.at + (l.left - 1) / 2 in
     let e : get_or c.args.table.now k 0 ≡ get_or thresholds k 0 = ap (λ (t : List ℕ). get_or t k 0) c.requires in
     elim c.if-table-middle.branch [
-      then-table-middle w ↦
-        (let after = later m thresholds falling k (omega (arith, count)) (omega (arith, w)) in (omega arith, omega arith, omega arith))
-    | else-table-middle w ↦ (let to = no_later m thresholds k (omega (arith, w)) in (omega arith, omega arith, omega arith))
+      | then-table-middle w ↦
+          (let after = later m thresholds falling k (omega (arith, count)) (omega (arith, w)) in (omega arith, omega arith, omega arith))
+      | else-table-middle w ↦ (let to = no_later m thresholds k (omega (arith, w)) in (omega arith, omega arith, omega arith))
     ]

@@ -1,15 +1,6 @@
 -- `depth::depth_by` meets its contract. The loop's invariant: the depth is one of the numbers from `at` to `at` + `left`. Assumes nothing.
-use mathlib.Core.Path.{◌≡◌, ap}
-use mathlib.Core.Logic.{⊎_elim}
-use mathlib.Core.List.{List}
-use Prim.Native.Nat.{ℕ, ◌+◌, ◌-◌, ◌*◌, ◌/◌, ◌≤◌}
-use native.Mathlib.Omega.{arith}
-use borrow.Author.Rules.{rules}
-use lib.ListN.{length, get_or}
-use Rattle.depth.specs.Table.{thresholds, depth_of}
-use Rattle.depth.proofs.Place.{no_later, later}
-use Rattle.depth.proofs.Table.{count, falling}
-use Rattle.depth.proofs.Meaning.{bounds}
+use Prim.Native.Nat.{◌+◌, ◌≤◌}
+use Rattle.depth.specs.Table.{depth_of}
 use Rattle.depth.proofs.depth_by.Given as goal
 
 abbrev pub invariant-loop-left : goal.invariant-loop-left

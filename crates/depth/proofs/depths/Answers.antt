@@ -1,12 +1,11 @@
 -- `depth::depths` keeps its promise: a refused call writes nothing, an accepted one leaves the depth of every entry. Assumes nothing.
 use mathlib.Core.Path.{◌≡◌, sym, ◌∙◌}
 use lib.ListN.{length}
-use borrow.Author.Rules.{rules}
 use Rattle.rules.proofs.Answers.{refused, done, kept, made}
 use Rattle.depth.specs.Promise.{refuse_depths}
 use Rattle.depth.proofs.Accepted.{accepted}
 use Rattle.depth.proofs.depths.Goals as goal
-use Rattle.depth.proofs.depths.Goals.{After-every-1, After-every-3-1, After-slice_known-1, After-slice_known-2-1, After-table-1, After-write-arg-1, Else-n-ne0, Then-n-ne0}
+use Rattle.depth.proofs.depths.Goals.{Else-n-ne0}
 
 none : (c : Else-n-ne0) → let s = c.args in refuse_depths s.z s.map.now (length s.out.now) ≡ 0
 none c = sym c.refuse-n.ensures ∙ c.if-n-ne0.false

@@ -1,14 +1,14 @@
 -- `depth::fallen` meets its contract. The loop's invariant: the depth is no more than `at`. Assumes nothing.
 use mathlib.Core.Path.{◌≡◌, ap}
 use mathlib.Core.List.{List}
-use Prim.Native.Nat.{ℕ, ◌-◌, ◌*◌, ◌≤◌}
+use Prim.Native.Nat.{ℕ, ◌-◌, ◌*◌}
 use native.Mathlib.Omega.{arith}
 use lib.ListN.{length, get_or}
 use Rattle.depth.specs.Table.{thresholds, depth_of}
 use Rattle.depth.proofs.Place.{no_later, later}
 use Rattle.depth.proofs.Table.{count, falling}
 use Rattle.depth.proofs.fallen.Goals as goal
-use Rattle.depth.proofs.fallen.Goals.{After-loop-at, After-shared_slice_known-1, After-shared_slice_known-1-unread, Else-table-at, In-loop-at, Start, Then-table-at}
+use Rattle.depth.proofs.fallen.Goals.{After-shared_slice_known-1}
 
 pub overflow_mul-bound : goal.overflow_mul-bound
 overflow_mul-bound c = omega (arith, c.requires.1)

@@ -1,16 +1,15 @@
 -- `depth::fill` meets its contract. The loop's invariant: each t passed has its depth, and that of the next is no more than d. Assumes nothing.
 use mathlib.Core.Path.{◌≡◌, ap, ◌∙◌}
-use Prim.Native.Nat.{ℕ, ◌+◌, ◌-◌, ◌≤◌, ◌<◌}
+use Prim.Native.Nat.{◌+◌, ◌≤◌, ◌<◌}
 use native.Mathlib.Omega.{arith}
 use borrow.Author.Rules.{rules}
-use lib.ListN.{length, get_or, length-set}
+use lib.ListN.{length, length-set}
 use Rattle.rules.proofs.Buffers.{wrote}
 use Rattle.depth.specs.Table.{depth_of}
 use Rattle.depth.proofs.Table.{count}
 use Rattle.depth.proofs.Meaning.{falls, bounds}
 use Rattle.depth.proofs.Written.{every_of}
 use Rattle.depth.proofs.fill.Goals as goal
-use Rattle.depth.proofs.fill.Goals.{After-fallen-d, After-loop-t, After-slice_known-1, In-loop-t}
 
 pub loop-t-init : goal.loop-t-init
 loop-t-init c =

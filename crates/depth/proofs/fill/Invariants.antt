@@ -1,14 +1,8 @@
 -- `depth::fill` meets its contract. The loop's invariant: each t passed has its depth, and that of the next is no more than d. Assumes nothing.
-use mathlib.Core.Path.{◌≡◌, ap, ◌∙◌}
-use Prim.Native.Nat.{ℕ, ◌+◌, ◌-◌, ◌≤◌, ◌<◌}
-use native.Mathlib.Omega.{arith}
-use borrow.Author.Rules.{rules}
-use lib.ListN.{length, get_or, length-set}
-use Rattle.rules.proofs.Buffers.{wrote}
+use mathlib.Core.Path.{◌≡◌}
+use Prim.Native.Nat.{ℕ, ◌-◌, ◌≤◌, ◌<◌}
+use lib.ListN.{length, get_or}
 use Rattle.depth.specs.Table.{depth_of}
-use Rattle.depth.proofs.Table.{count}
-use Rattle.depth.proofs.Meaning.{falls, bounds}
-use Rattle.depth.proofs.Written.{every_of}
 use Rattle.depth.proofs.fill.Given as goal
 
 abbrev pub invariant-loop-t : goal.invariant-loop-t

@@ -5,7 +5,7 @@ use Rattle.rules.specs.Refusals.{bad_size}
 use Rattle.rules.proofs.Good.{size_good}
 use Rattle.depth.specs.Promise.{refuse_depths}
 use Rattle.depth.proofs.refuse.Goals as goal
-use Rattle.depth.proofs.refuse.Goals.{After-either-lengths, After-first_of, After-shared_slice_known-1, After-wrong_entries-entries, After-wrong_map, After-wrong_map-2, Else-wrong_size, Then-wrong_size}
+use Rattle.depth.proofs.refuse.Goals.{Else-wrong_size}
 
 small : (c : Else-wrong_size) → bad_size c.args.z ≡ false
 small c = sym c.wrong_size.ensures ∙ c.if-wrong_size.false

@@ -1,7 +1,7 @@
 -- `depth::write` meets its contract. The loop's invariant: the entries passed have their depths. Assumes nothing.
 use mathlib.Core.Path.{◌≡◌, sym, ap, ◌∙◌}
 use mathlib.Core.List.{List}
-use Prim.Native.Nat.{ℕ, ◌-◌, ◌≤◌, ◌<◌}
+use Prim.Native.Nat.{ℕ, ◌≤◌, ◌<◌}
 use native.Mathlib.Omega.{arith}
 use borrow.Author.Rules.{rules}
 use lib.ListN.{length, get_or, length-set}
@@ -9,7 +9,6 @@ use Rattle.rules.proofs.Buffers.{wrote}
 use Rattle.depth.specs.Table.{depth_of}
 use Rattle.depth.proofs.Written.{written, every_long, every_at}
 use Rattle.depth.proofs.write.Goals as goal
-use Rattle.depth.proofs.write.Goals.{After-loop-p, After-shared_slice_known-1, After-shared_slice_known-1-unread, After-shared_slice_known-in-loop-p-1, In-loop-p, Start}
 
 pub loop-p-init : goal.loop-p-init
 loop-p-init c = (omega arith, search rules, λ k h. absurd (let z : 1 ≤ 0 = omega arith in omega arith))

@@ -1,13 +1,8 @@
 -- `depth::write` meets its contract. The loop's invariant: the entries passed have their depths. Assumes nothing.
-use mathlib.Core.Path.{◌≡◌, sym, ap, ◌∙◌}
-use mathlib.Core.List.{List}
+use mathlib.Core.Path.{◌≡◌}
 use Prim.Native.Nat.{ℕ, ◌-◌, ◌≤◌, ◌<◌}
-use native.Mathlib.Omega.{arith}
-use borrow.Author.Rules.{rules}
-use lib.ListN.{length, get_or, length-set}
-use Rattle.rules.proofs.Buffers.{wrote}
+use lib.ListN.{length, get_or}
 use Rattle.depth.specs.Table.{depth_of}
-use Rattle.depth.proofs.Written.{written, every_long, every_at}
 use Rattle.depth.proofs.write.Given as goal
 
 abbrev pub invariant-loop-p : goal.invariant-loop-p

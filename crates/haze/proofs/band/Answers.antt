@@ -1,7 +1,6 @@
 -- `haze::band` keeps its promise. Assumes nothing.
 use mathlib.Core.Path.{◌≡◌, sym, ap, ◌∙◌}
 use native.Mathlib.Omega.{arith}
-use borrow.Author.Rules.{rules}
 use Rattle.rules.specs.Refusals.{refuse_band}
 use Rattle.rules.specs.declared.Band.TheVariants as variant
 use Rattle.rules.proofs.Answers.{or_refused, or_done}

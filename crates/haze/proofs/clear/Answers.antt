@@ -8,9 +8,8 @@ use Rattle.rules.specs.Promise.{Lent, lent_of, no_clear, after_clear}
 use Rattle.rules.proofs.Answers.{or_refused, or_done, kept, made}
 use Rattle.haze.proofs.Accepted.{given, loan}
 use Rattle.refusals.proofs.Accepted.{clear_accepted}
-use borrow.Author.Rules.{rules}
 use Rattle.haze.proofs.clear.Goals as goal
-use Rattle.haze.proofs.clear.Goals.{After-clear_whole-arg-3-1, After-work-1, Else-n-ne0, Start, Then-n-ne0}
+use Rattle.haze.proofs.clear.Goals.{Else-n-ne0, Start}
 
 -- the setup, what stood in the buffers, and the call's refusal number
 abbrev setup : Start → Setup

@@ -1,12 +1,11 @@
 -- `haze::haze` keeps its promise: a refused call writes nothing, an accepted one leaves the hazed frame. Assumes nothing.
 use mathlib.Core.Path.{◌≡◌, sym, ◌∙◌}
 use lib.ListN.{length}
-use borrow.Author.Rules.{rules}
 use Rattle.rules.specs.Refusals.{refuse_haze}
 use Rattle.rules.proofs.Answers.{refused, done, kept, made}
 use Rattle.refusals.proofs.Accepted.{AcceptedHaze, haze_accepted}
 use Rattle.haze.proofs.haze.Goals as goal
-use Rattle.haze.proofs.haze.Goals.{After-slice_known-2-1, Else-n-ne0, Then-n-ne0}
+use Rattle.haze.proofs.haze.Goals.{Else-n-ne0}
 
 none : (c : Else-n-ne0) → let s = c.args in refuse_haze s.z s.a (length s.clean.now) s.map.now (length s.hazed.now) ≡ 0
 none c = sym c.refuse_haze-n.ensures ∙ c.if-n-ne0.false

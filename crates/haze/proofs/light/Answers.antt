@@ -1,12 +1,11 @@
 -- `haze::light` meets its contract: the number of the refusal, or what is found. Assumes nothing.
 use mathlib.Core.Path.{◌≡◌, sym, ap, ◌∙◌}
-use borrow.Author.Rules.{rules}
 use Rattle.rules.specs.declared.Found.TheVariants.{Light, Refused}
 use Rattle.rules.specs.Promise.{no_light}
 use Rattle.rules.proofs.Answers.{or_refused, or_done, kept, made}
 use Rattle.refusals.proofs.Accepted.{light_accepted}
 use Rattle.haze.proofs.light.Goals as goal
-use Rattle.haze.proofs.light.Goals.{After-find-arg-1, After-work-1, Else-n-ne0, Then-n-ne0}
+use Rattle.haze.proofs.light.Goals.{Else-n-ne0}
 
 pub returns-then-n-ne0 : goal.returns-then-n-ne0
 returns-then-n-ne0 c =

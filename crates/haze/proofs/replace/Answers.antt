@@ -8,9 +8,8 @@ use Rattle.rules.specs.Promise.{Lent, lent_of, no_replace, after_replace}
 use Rattle.rules.proofs.Answers.{or_refused, or_done, kept, made}
 use Rattle.haze.proofs.Accepted.{given, loan}
 use Rattle.refusals.proofs.Accepted.{replace_accepted}
-use borrow.Author.Rules.{rules}
 use Rattle.haze.proofs.replace.Goals as goal
-use Rattle.haze.proofs.replace.Goals.{After-replace_whole-arg-4-1, After-work-1, Else-n-ne0, Start, Then-n-ne0}
+use Rattle.haze.proofs.replace.Goals.{Else-n-ne0, Start}
 
 -- the setup, what stood in the buffers, the call's refusal number, and what an accepted call counts and leaves
 abbrev setup : Start → Setup

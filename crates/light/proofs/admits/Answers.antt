@@ -2,7 +2,6 @@
 use native.Mathlib.Omega.{arith}
 use borrow.Author.Tests.{lt-ltb, le-ltb, eq-eqb, ne_eqb}
 use Rattle.light.proofs.admits.Goals as goal
-use Rattle.light.proofs.admits.Goals.{Else-d-cut, Then-d-cut}
 
 pub returns-then-cut-d : goal.returns-then-cut-d
 returns-then-cut-d c = rw (lt-ltb _ _ c.if-cut-d.true)

@@ -1,8 +1,6 @@
 -- `light::better` meets its contract. Assumes nothing.
-use borrow.Author.Tests.{not-true, not-false, le-leb, lt-leb}
-use borrow.Author.Rules.{rules}
+use borrow.Author.Tests.{le-leb, lt-leb}
 use Rattle.light.proofs.better.Goals as goal
-use Rattle.light.proofs.better.Goals.{Else-b-g, Then-b-g}
 
 pub returns-then-not-ok : goal.returns-then-not-ok
 returns-then-not-ok c = rw c.if-not-ok.true

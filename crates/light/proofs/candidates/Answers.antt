@@ -1,7 +1,6 @@
 -- `light::candidates` meets its contract. Assumes nothing.
 use native.Mathlib.Omega.{arith}
 use native.Mathlib.Nat.{mul-le-mul}
-use borrow.Author.Rules.{rules}
 use Rattle.light.proofs.candidates.Goals as goal
 
 pub overflow_mul-m : goal.overflow_mul-m

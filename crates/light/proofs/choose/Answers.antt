@@ -1,13 +1,12 @@
 -- `light::choose` meets its contract. The loop's invariant: the walk has come to row y. Assumes nothing.
 use mathlib.Core.Path.{◌≡◌, ap, ◌∙◌}
-use Prim.Native.Nat.{ℕ, ◌≤◌, ◌-◌, ◌+◌, ◌*◌}
+use Prim.Native.Nat.{ℕ, ◌≤◌, ◌+◌, ◌*◌}
 use native.Mathlib.Nat.{zero-mul, mul_comm, mul-pos}
 use native.Mathlib.Omega.{arith}
-use Rattle.light.specs.Steps.{Walked}
 use Rattle.light.proofs.Keeping.{start, chosen}
 use Rattle.light.proofs.Areas.{row_end, row_next}
 use Rattle.light.proofs.choose.Goals as goal
-use Rattle.light.proofs.choose.Goals.{After-choose_row-b, After-loop-y, After-shared_slice_known-2-1, After-shared_slice_known-in-loop-y-1, In-loop-y}
+use Rattle.light.proofs.choose.Goals.{In-loop-y}
 
 pub loop-y-init : goal.loop-y-init
 loop-y-init c =

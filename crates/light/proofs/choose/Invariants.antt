@@ -1,11 +1,6 @@
 -- `light::choose` meets its contract. The loop's invariant: the walk has come to row y. Assumes nothing.
-use mathlib.Core.Path.{◌≡◌, ap, ◌∙◌}
-use Prim.Native.Nat.{ℕ, ◌≤◌, ◌-◌, ◌+◌, ◌*◌}
-use native.Mathlib.Nat.{zero-mul, mul_comm, mul-pos}
-use native.Mathlib.Omega.{arith}
+use Prim.Native.Nat.{◌≤◌, ◌-◌, ◌*◌}
 use Rattle.light.specs.Steps.{Walked}
-use Rattle.light.proofs.Keeping.{start, chosen}
-use Rattle.light.proofs.Areas.{row_end, row_next}
 use Rattle.light.proofs.choose.Given as goal
 
 abbrev pub invariant-loop-y : goal.invariant-loop-y

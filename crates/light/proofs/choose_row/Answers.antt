@@ -1,9 +1,7 @@
 -- `light::choose_row` meets its contract: a row that is passed over is below the cutoff. Assumes nothing.
 use native.Mathlib.Omega.{arith}
-use borrow.Author.Rules.{rules}
 use Rattle.light.proofs.Keeping.{passed}
 use Rattle.light.proofs.choose_row.Goals as goal
-use Rattle.light.proofs.choose_row.Goals.{Then-top-cut}
 
 pub returns-then-top-cut : goal.returns-then-top-cut
 returns-then-top-cut c =

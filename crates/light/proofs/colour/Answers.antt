@@ -1,9 +1,7 @@
 -- `light::colour` meets its contract. Assumes nothing.
 use mathlib.Core.Path.{ap, ◌∙◌}
-use borrow.Author.Rules.{rules}
 use Rattle.rules.specs.Light.{lifted}
 use Rattle.light.proofs.colour.Goals as goal
-use Rattle.light.proofs.colour.Goals.{After-lift-b}
 
 pub returns : goal.returns
 returns c =

@@ -3,11 +3,10 @@ use mathlib.Core.Path.{◌≡◌, sym, ap}
 use Prim.Native.Nat.{ℕ, ◌<◌, ◌-◌, ◌+◌}
 use native.Mathlib.Omega.{arith}
 use lib.ListN.{length}
-use borrow.Author.Rules.{rules}
 use Rattle.light.specs.Steps.{at_least}
 use Rattle.light.proofs.Counts.{at_least_last, at_least_more, some_below}
 use Rattle.light.proofs.cutoff.Goals as goal
-use Rattle.light.proofs.cutoff.Goals.{After-loop-next, After-whole, After-whole-next, In-loop-next}
+use Rattle.light.proofs.cutoff.Goals.{In-loop-next}
 
 pub bounds-counts-v : goal.bounds-counts-v
 bounds-counts-v c = omega (arith, c.requires.0)

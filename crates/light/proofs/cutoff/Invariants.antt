@@ -1,11 +1,8 @@
 -- `light::cutoff` meets its contract. The loop's invariant: `next` pixels are at least v, and `above`, fewer than m, are above it. Assumes nothing.
-use mathlib.Core.Path.{◌≡◌, sym, ap}
-use Prim.Native.Nat.{ℕ, ◌<◌, ◌-◌, ◌+◌}
-use native.Mathlib.Omega.{arith}
+use mathlib.Core.Path.{◌≡◌}
+use Prim.Native.Nat.{◌<◌, ◌+◌}
 use lib.ListN.{length}
-use borrow.Author.Rules.{rules}
 use Rattle.light.specs.Steps.{at_least}
-use Rattle.light.proofs.Counts.{at_least_last, at_least_more, some_below}
 use Rattle.light.proofs.cutoff.Given as goal
 
 abbrev pub invariant-loop-next : goal.invariant-loop-next

@@ -13,9 +13,9 @@ use Rattle.light.proofs.Rows.{zeros}
 use Rattle.light.proofs.Counts.{hits_below}
 use Rattle.light.proofs.Minima.{columns_start, level_is, out_le}
 use Rattle.light.proofs.Areas.{roomy, dark_all}
-use Rattle.light.proofs.Going.{Going, given_start}
+use Rattle.light.proofs.Going.{given_start}
 use Rattle.light.proofs.darks.Goals as goal
-use Rattle.light.proofs.darks.Goals.{After-down-count, After-give_row-arg-in-loop-i-2-1, After-loop-i, After-out-1, After-q-1, After-slice_known-2-1, After-slice_known-in-loop-i-2-1, After-take_row-count, At-loop-i, In-loop-i}
+use Rattle.light.proofs.darks.Goals.{After-down-count, After-take_row-count, In-loop-i}
 
 pub loop-i-init : goal.loop-i-init
 loop-i-init c =

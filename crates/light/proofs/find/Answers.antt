@@ -1,5 +1,5 @@
 -- `light::find` meets its contract, from what its parts ensure. Assumes nothing.
-use mathlib.Core.Path.{sym, ap₂, ◌∙◌}
+use mathlib.Core.Path.{sym, ap₂}
 use native.Mathlib.Omega.{arith}
 use lib.ListN.{length, get_or-replicate}
 use Rattle.rules.specs.Shape.{described}
@@ -9,7 +9,7 @@ use Rattle.light.proofs.Rows.{zeros}
 use Rattle.light.proofs.Areas.{wiped_after}
 use Rattle.light.proofs.Answer.{light_given}
 use Rattle.light.proofs.find.Goals as goal
-use Rattle.light.proofs.find.Goals.{After-colour, After-tops-3-1, After-wipe-arg-1}
+use Rattle.light.proofs.find.Goals.{After-wipe-arg-1}
 
 pub slice_bounds-darks-end : goal.slice_bounds-darks-end
 slice_bounds-darks-end c = sym (zeros 1028)

@@ -2,12 +2,12 @@
 use mathlib.Core.Path.{◌≡◌, ◌∙◌}
 use Prim.Native.Nat.{ℕ, ◌+◌, ◌-◌, ◌*◌, ◌≤◌, ◌<◌}
 use native.Mathlib.Omega.{arith}
-use lib.ListN.{length, get_or, length-set}
+use lib.ListN.{length, get_or}
 use Rattle.rules.specs.Shape.{described}
 use Rattle.light.proofs.Minima.{level_by_le}
 use Rattle.light.proofs.Areas.{row_end, dark_more}
 use Rattle.light.proofs.give_row.Goals as goal
-use Rattle.light.proofs.give_row.Goals.{After-greatest, After-level_row, After-level_row-arg-1, After-store_row-arg-1, After-tally_row-arg-1, Else-i-s, Then-i-s}
+use Rattle.light.proofs.give_row.Goals.{After-level_row, Else-i-s}
 
 pub returns-then-i-s : goal.returns-then-i-s
 returns-then-i-s c D l was given =

@@ -1,12 +1,9 @@
 -- `light::greatest` meets its contract. The loop's invariant: m bounds the first x. Assumes nothing.
 use mathlib.Core.Path.{◌≡◌}
-use Prim.Native.Nat.{ℕ, ◌≤◌, ◌<◌, ◌-◌}
 use native.Mathlib.Omega.{arith}
 use lib.ListN.{get_or}
-use borrow.Author.Rules.{rules}
 use Rattle.light.proofs.Rows.{bound_more}
 use Rattle.light.proofs.greatest.Goals as goal
-use Rattle.light.proofs.greatest.Goals.{After-larger-m, After-loop-x}
 
 pub loop-x-init : goal.loop-x-init
 loop-x-init c = (omega arith, λ i h. absurd (omega arith))

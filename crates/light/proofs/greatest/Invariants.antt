@@ -1,10 +1,6 @@
 -- `light::greatest` meets its contract. The loop's invariant: m bounds the first x. Assumes nothing.
-use mathlib.Core.Path.{◌≡◌}
 use Prim.Native.Nat.{ℕ, ◌≤◌, ◌<◌, ◌-◌}
-use native.Mathlib.Omega.{arith}
 use lib.ListN.{get_or}
-use borrow.Author.Rules.{rules}
-use Rattle.light.proofs.Rows.{bound_more}
 use Rattle.light.proofs.greatest.Given as goal
 
 abbrev pub invariant-loop-x : goal.invariant-loop-x

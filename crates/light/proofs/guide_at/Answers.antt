@@ -1,6 +1,5 @@
 -- `light::guide_at` meets its contract. Assumes nothing.
 use mathlib.Core.Path.{ap, ◌∙◌}
-use borrow.Author.Rules.{rules}
 use Rattle.rules.specs.Light.{guide}
 use Rattle.light.proofs.guide_at.Goals as goal
 

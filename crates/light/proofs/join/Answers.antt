@@ -1,12 +1,10 @@
 -- `light::join` meets its contract. The loop's invariant: the counts before v are joined. Assumes nothing.
-use mathlib.Core.Path.{◌≡◌, sym, ◌∙◌}
-use Prim.Native.Nat.{◌≤◌, ◌-◌}
+use mathlib.Core.Path.{◌≡◌, ◌∙◌}
 use native.Mathlib.Omega.{arith}
-use lib.ListN.{length, length-set}
-use Rattle.light.specs.Steps.{Starts, joined}
+use lib.ListN.{length-set}
+use Rattle.light.specs.Steps.{joined}
 use Rattle.light.proofs.Counts.{starts_more}
 use Rattle.light.proofs.join.Goals as goal
-use Rattle.light.proofs.join.Goals.{After-loop-v, After-together, In-loop-v}
 
 pub loop-v-init : goal.loop-v-init
 loop-v-init c = (omega arith, c.requires.1, λ v h. absurd (omega arith))

@@ -1,10 +1,8 @@
 -- `light::join` meets its contract. The loop's invariant: the counts before v are joined. Assumes nothing.
-use mathlib.Core.Path.{◌≡◌, sym, ◌∙◌}
+use mathlib.Core.Path.{◌≡◌}
 use Prim.Native.Nat.{◌≤◌, ◌-◌}
-use native.Mathlib.Omega.{arith}
-use lib.ListN.{length, length-set}
+use lib.ListN.{length}
 use Rattle.light.specs.Steps.{Starts, joined}
-use Rattle.light.proofs.Counts.{starts_more}
 use Rattle.light.proofs.join.Given as goal
 
 abbrev pub invariant-loop-v : goal.invariant-loop-v

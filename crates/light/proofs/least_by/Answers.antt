@@ -1,6 +1,5 @@
 -- `light::least_by` meets its contract. Assumes nothing.
 use borrow.Author.Tests.{eq-eqb, ne_eqb}
-use borrow.Author.Rules.{rules}
 use Rattle.light.proofs.least_by.Goals as goal
 
 pub returns-then-m-eq0 : goal.returns-then-m-eq0

@@ -1,15 +1,14 @@
 -- `light::least_row` meets its contract. The loop's invariant is the contract at x pixels. Assumes nothing.
 use mathlib.Core.Path.{◌≡◌, refl, ap, ◌∙◌}
-use Prim.Native.Nat.{◌+◌, ◌-◌, ◌≤◌}
+use Prim.Native.Nat.{◌+◌}
 use native.Mathlib.Omega.{arith}
-use lib.ListN.{length, length-set, get_or}
-use borrow.Author.Rules.{rules}
+use lib.ListN.{length-set, get_or}
 use Rattle.rules.specs.Light.{darkest}
 use Rattle.rules.specs.Buffers.{pixel_at}
-use Rattle.light.specs.Steps.{Starts, least_by}
+use Rattle.light.specs.Steps.{least_by}
 use Rattle.light.proofs.Counts.{starts_more}
 use Rattle.light.proofs.least_row.Goals as goal
-use Rattle.light.proofs.least_row.Goals.{After-least_by, After-loop-x}
+use Rattle.light.proofs.least_row.Goals.{After-least_by}
 
 pub loop-x-init : goal.loop-x-init
 loop-x-init c = (omega arith, refl, λ i h. absurd (omega arith))

@@ -1,13 +1,10 @@
 -- `light::least_row` meets its contract. The loop's invariant is the contract at x pixels. Assumes nothing.
-use mathlib.Core.Path.{◌≡◌, refl, ap, ◌∙◌}
+use mathlib.Core.Path.{◌≡◌}
 use Prim.Native.Nat.{◌+◌, ◌-◌, ◌≤◌}
-use native.Mathlib.Omega.{arith}
-use lib.ListN.{length, length-set, get_or}
-use borrow.Author.Rules.{rules}
+use lib.ListN.{length, get_or}
 use Rattle.rules.specs.Light.{darkest}
 use Rattle.rules.specs.Buffers.{pixel_at}
 use Rattle.light.specs.Steps.{Starts, least_by}
-use Rattle.light.proofs.Counts.{starts_more}
 use Rattle.light.proofs.least_row.Given as goal
 
 abbrev pub invariant-loop-x : goal.invariant-loop-x

@@ -7,9 +7,7 @@ use mir.Syntax.{w64}
 use mir.Val.{to_z, of_z}
 use mir.Facts.{to_z_pos}
 use Rattle.light.specs.Steps.{value}
-use borrow.Author.Rules.{rules}
 use Rattle.light.proofs.level.Goals as goal
-use Rattle.light.proofs.level.Goals.{After-result-1}
 
 pub overflow_cast-result : goal.overflow_cast-result
 overflow_cast-result c =

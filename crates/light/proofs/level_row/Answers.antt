@@ -1,12 +1,12 @@
 -- `light::level_row` meets its contract. The loop's invariant is the contract at x pixels. Assumes nothing.
 use mathlib.Core.Path.{◌≡◌, refl, ◌∙◌}
-use Prim.Native.Nat.{◌+◌, ◌-◌, ◌≤◌}
+use Prim.Native.Nat.{◌+◌}
 use native.Mathlib.Omega.{arith}
-use lib.ListN.{length, length-set, get_or}
-use Rattle.light.specs.Steps.{Starts, level_by}
+use lib.ListN.{length-set, get_or}
+use Rattle.light.specs.Steps.{level_by}
 use Rattle.light.proofs.Counts.{starts_more}
 use Rattle.light.proofs.level_row.Goals as goal
-use Rattle.light.proofs.level_row.Goals.{After-level_by, After-loop-x, After-shared_slice_known-in-loop-x-2-1}
+use Rattle.light.proofs.level_row.Goals.{After-level_by}
 
 pub loop-x-init : goal.loop-x-init
 loop-x-init c = (omega arith, refl, λ i h. absurd (omega arith))

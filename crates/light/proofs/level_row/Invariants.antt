@@ -1,10 +1,8 @@
 -- `light::level_row` meets its contract. The loop's invariant is the contract at x pixels. Assumes nothing.
-use mathlib.Core.Path.{◌≡◌, refl, ◌∙◌}
+use mathlib.Core.Path.{◌≡◌}
 use Prim.Native.Nat.{◌+◌, ◌-◌, ◌≤◌}
-use native.Mathlib.Omega.{arith}
-use lib.ListN.{length, length-set, get_or}
+use lib.ListN.{length, get_or}
 use Rattle.light.specs.Steps.{Starts, level_by}
-use Rattle.light.proofs.Counts.{starts_more}
 use Rattle.light.proofs.level_row.Given as goal
 
 abbrev pub invariant-loop-x : goal.invariant-loop-x

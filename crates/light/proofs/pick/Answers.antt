@@ -3,7 +3,6 @@ use mathlib.Core.Path.{◌≡◌, sym, ◌∙◌, ap}
 use Prim.Native.Nat.{ℕ, ◌+◌, ◌-◌, ◌*◌, ◌≤◌}
 use native.Mathlib.Omega.{arith}
 use lib.ListN.{get_or}
-use borrow.Author.Rules.{rules}
 use Rattle.rules.specs.Light.{m}
 use Rattle.rules.specs.Shape.{described}
 use Rattle.light.specs.Steps.{value, Levels, lane, Tallied, CutAt}
@@ -13,7 +12,7 @@ use Rattle.light.proofs.Counts.{tallied_joined, at_least_all}
 use Rattle.light.proofs.Areas.{roomy, levels}
 use Rattle.light.proofs.Answer.{seen_count, m_seen, seen_is, light_is}
 use Rattle.light.proofs.pick.Goals as goal
-use Rattle.light.proofs.pick.Goals.{After-candidates-m, After-choose, After-counts-1, After-counts-3-1, After-cutoff-cut, After-join, After-whole, Start}
+use Rattle.light.proofs.pick.Goals.{After-candidates-m, After-join, After-whole, Start}
 
 pub slice_bounds-join-end : goal.slice_bounds-join-end
 slice_bounds-join-end c = sym (zeros 257)

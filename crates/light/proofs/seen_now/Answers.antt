@@ -1,7 +1,6 @@
 -- `light::seen_now` meets its contract. Assumes nothing.
 use native.Mathlib.Nat.{add-zero}
 use borrow.Author.Tests.{eq-eqb, ne_eqb}
-use borrow.Author.Rules.{rules}
 use Rattle.light.proofs.seen_now.Goals as goal
 
 pub returns-then-cut-d : goal.returns-then-cut-d

@@ -1,14 +1,12 @@
 -- `light::store_row` meets its contract. The loop's invariant: the first x values are put, the rest is as it was. Assumes nothing.
 use mathlib.Core.Path.{◌≡◌, refl, ◌∙◌}
-use Prim.Native.Nat.{◌≤◌, ◌-◌, ◌+◌}
+use Prim.Native.Nat.{◌+◌}
 use native.Mathlib.Omega.{arith}
-use lib.ListN.{length, length-set, get_or}
+use lib.ListN.{length-set, get_or}
 use mir.Syntax.{w64}
 use mir.Facts.{to_z_pos}
-use Rattle.light.specs.Steps.{RowPut}
 use Rattle.light.proofs.Rows.{put_none, put_more}
 use Rattle.light.proofs.store_row.Goals as goal
-use Rattle.light.proofs.store_row.Goals.{After-loop-x, After-shared_slice_known-1}
 
 pub loop-x-init : goal.loop-x-init
 loop-x-init c = (omega arith, refl, put_none _ _ _)

@@ -1,12 +1,8 @@
 -- `light::store_row` meets its contract. The loop's invariant: the first x values are put, the rest is as it was. Assumes nothing.
-use mathlib.Core.Path.{◌≡◌, refl, ◌∙◌}
-use Prim.Native.Nat.{◌≤◌, ◌-◌, ◌+◌}
-use native.Mathlib.Omega.{arith}
-use lib.ListN.{length, length-set, get_or}
-use mir.Syntax.{w64}
-use mir.Facts.{to_z_pos}
+use mathlib.Core.Path.{◌≡◌}
+use Prim.Native.Nat.{◌≤◌, ◌-◌}
+use lib.ListN.{length, get_or}
 use Rattle.light.specs.Steps.{RowPut}
-use Rattle.light.proofs.Rows.{put_none, put_more}
 use Rattle.light.proofs.store_row.Given as goal
 
 abbrev pub invariant-loop-x : goal.invariant-loop-x

@@ -7,7 +7,7 @@ use Rattle.columns.proofs.Counted.{along_row, along_none}
 use Rattle.light.proofs.Minima.{along_is}
 use Rattle.light.proofs.Areas.{row_end}
 use Rattle.light.proofs.take_row.Goals as goal
-use Rattle.light.proofs.take_row.Goals.{After-least_row-arg-1, After-shrink-arg-3-1, After-slice_known-7-1, Then-h-i}
+use Rattle.light.proofs.take_row.Goals.{After-least_row-arg-1}
 
 pub returns-then-h-i : goal.returns-then-h-i
 returns-then-h-i c =

@@ -1,14 +1,14 @@
 -- `light::tally_row` meets its contract. The loop's invariant: with the counts of the positions before `first` go those of x more, each in its lane.
 -- Assumes nothing.
-use mathlib.Core.Path.{◌≡◌, sym, ap, ◌∙◌}
-use Prim.Native.Nat.{ℕ, ◌≤◌, ◌<◌, ◌-◌, ◌+◌, ◌*◌, ◌%◌}
+use mathlib.Core.Path.{◌≡◌, ap, ◌∙◌}
+use Prim.Native.Nat.{ℕ, ◌≤◌, ◌<◌, ◌+◌, ◌*◌, ◌%◌}
 use native.Mathlib.Omega.{arith}
 use native.Mathlib.Nat.{add-zero}
 use lib.ListN.{length, length-set, get_or}
-use Rattle.light.specs.Steps.{hits, Starts, Below, lane}
+use Rattle.light.specs.Steps.{lane}
 use Rattle.light.proofs.Counts.{tallied_more, below_more}
 use Rattle.light.proofs.tally_row.Goals as goal
-use Rattle.light.proofs.tally_row.Goals.{After-loop-x, After-shared_slice_known-1, After-slice_known-1, Start}
+use Rattle.light.proofs.tally_row.Goals.{After-shared_slice_known-1}
 
 pub loop-x-init : goal.loop-x-init
 loop-x-init c =

@@ -1,12 +1,9 @@
 -- `light::tally_row` meets its contract. The loop's invariant: with the counts of the positions before `first` go those of x more, each in its lane.
 -- Assumes nothing.
-use mathlib.Core.Path.{◌≡◌, sym, ap, ◌∙◌}
-use Prim.Native.Nat.{ℕ, ◌≤◌, ◌<◌, ◌-◌, ◌+◌, ◌*◌, ◌%◌}
-use native.Mathlib.Omega.{arith}
-use native.Mathlib.Nat.{add-zero}
-use lib.ListN.{length, length-set, get_or}
+use mathlib.Core.Path.{◌≡◌}
+use Prim.Native.Nat.{ℕ, ◌≤◌, ◌<◌, ◌-◌, ◌+◌}
+use lib.ListN.{length, get_or}
 use Rattle.light.specs.Steps.{hits, Starts, Below, lane}
-use Rattle.light.proofs.Counts.{tallied_more, below_more}
 use Rattle.light.proofs.tally_row.Given as goal
 
 abbrev pub invariant-loop-x : goal.invariant-loop-x

@@ -1,8 +1,6 @@
 -- `light::together` meets its contract: four counts of at most 262,144 fit together. Assumes nothing.
 use Prim.Native.Nat.{◌+◌, ◌*◌, ◌≤◌}
 use native.Mathlib.Omega.{arith}
-use lib.ListN.{get_or}
-use borrow.Author.Rules.{rules}
 use Rattle.light.specs.Steps.{joined}
 use Rattle.light.proofs.together.Goals as goal
 use Rattle.light.proofs.together.Goals.{Start}

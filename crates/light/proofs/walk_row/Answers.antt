@@ -1,13 +1,11 @@
 -- `light::walk_row` meets its contract. The loop's invariant: the walk has come to p. Assumes nothing.
 use mathlib.Core.Path.{◌≡◌, refl}
-use Prim.Native.Nat.{◌≤◌, ◌-◌, ◌+◌}
+use Prim.Native.Nat.{◌+◌}
 use native.Mathlib.Omega.{arith}
-use borrow.Author.Rules.{rules}
 use Rattle.light.specs.Steps as steps
 use Rattle.light.proofs.Positions.{hits_le}
 use Rattle.light.proofs.Keeping.{turn}
 use Rattle.light.proofs.walk_row.Goals as goal
-use Rattle.light.proofs.walk_row.Goals.{After-better-leader, After-loop-p, After-seen_now-seen, In-loop-p}
 
 pub loop-p-init : goal.loop-p-init
 loop-p-init c = (omega arith, c.requires.4)

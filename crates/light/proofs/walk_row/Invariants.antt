@@ -1,11 +1,6 @@
 -- `light::walk_row` meets its contract. The loop's invariant: the walk has come to p. Assumes nothing.
-use mathlib.Core.Path.{◌≡◌, refl}
 use Prim.Native.Nat.{◌≤◌, ◌-◌, ◌+◌}
-use native.Mathlib.Omega.{arith}
-use borrow.Author.Rules.{rules}
 use Rattle.light.specs.Steps as steps
-use Rattle.light.proofs.Positions.{hits_le}
-use Rattle.light.proofs.Keeping.{turn}
 use Rattle.light.proofs.walk_row.Given as goal
 
 abbrev pub invariant-loop-p : goal.invariant-loop-p

@@ -2,7 +2,6 @@
 use mathlib.Core.Path.{refl}
 use Rattle.depth.specs.Table.{thresholds}
 use Rattle.depth.proofs.thresholds.stored.Goals as goal
-use Rattle.depth.proofs.thresholds.stored.Goals.{Start}
 
 pub returns : goal.returns
 unfolding thresholds
