@@ -3,14 +3,14 @@
 -- A line is two windows, one after the other. Assumes nothing.
 use mathlib.Core.Path.{◌≡◌, refl, ap, ap₂, ◌∙◌}
 use mathlib.Core.List.{List, ◌∷◌}
-use Prim.Native.Nat.{ℕ, zero, suc, ◌+◌, ◌-◌, ◌*◌, min, ◌≤◌, ◌<◌}
+use Prim.Native.Nat.{ℕ, zero, suc, ◌+◌, ◌-◌, min, ◌≤◌, ◌<◌}
 use native.Mathlib.Nat.{add-suc}
 use native.Mathlib.Omega.{arith}
 use Rattle.rules.specs.Shape.{Shape}
 use Rattle.rules.specs.declared.Settings.{Settings}
 use Rattle.rules.specs.declared.Rgb.{Rgb}
 use Rattle.rules.specs.Window.{Plane, Shown, alike, seen_of, from, flat, low, many, around, square, window}
-use Rattle.rules.specs.Transmission.{least_ratio, coarse, sample, line, fit}
+use Rattle.rules.specs.Transmission.{least_ratio, coarse, sample, fit}
 use Rattle.rules.proofs.Local.{Within, Local, from_cong, window_local}
 use Rattle.rules.specs.Box.{part, Fits, Sees}
 

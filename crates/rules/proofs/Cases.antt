@@ -1,9 +1,8 @@
 -- P1 to P11 and our own rows: one statement over the whole table, one over the rows under a mask and one over those of the comparisons. Each is computed as one test, which is quick to see that
 -- a wrong definition fails it, and the test means that each row has what is wanted. Assumes nothing.
-use mathlib.Core.Path.{◌≡◌, refl, sym, ap, ap₂, ◌∙◌}
+use mathlib.Core.Path.{◌≡◌, refl, sym, ap, ap₂}
 use mathlib.Core.Bool.{Bool, true, false, ◌&&◌, true≢false}
 use mathlib.Core.List.{List, [], ◌∷◌, map}
-use Prim.Native.Nat.{ℕ}
 use lib.Dec.{eqb}
 use lib.IntN.{ℤ, pos, negsuc}
 use borrow.Author.Tests.{eqb-true}

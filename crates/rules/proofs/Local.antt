@@ -10,7 +10,7 @@ use Rattle.rules.specs.Shape.{Shape}
 use Rattle.rules.specs.declared.Settings.{Settings}
 use Rattle.rules.specs.declared.Rgb.{Rgb}
 use Rattle.rules.specs.Window.{Plane, Shown, alike, seen_of, from, flat, low, many, around, square, window}
-use Rattle.rules.specs.Transmission.{least_ratio, coarse, sample, line, fit, refined, map_entry}
+use Rattle.rules.specs.Transmission.{least_ratio, coarse, sample, fit, refined, map_entry}
 use Rattle.rules.specs.Picture.{cleared}
 use Rattle.rules.specs.Buffers.{reach}
 

@@ -3,13 +3,12 @@
 -- those of a clearing of the new frame: of the rules (`replace_anew`), and of a call that keeps its promise (`replaces_anew`). All others stay
 -- (`Run.replace-alone`, `Run.replaces-alone`). To be so near the rectangle is to have a pixel of it so near (`near_some`, `some_near`). Assumes nothing.
 use mathlib.Core.Path.{◌≡◌, sym, ap₂, ◌∙◌}
-use mathlib.Core.Logic.{◌⊎◌, inl, inr, ⊎_elim}
+use mathlib.Core.Logic.{⊎_elim}
 use mathlib.Core.Bool.{Bool, true}
 use mathlib.Core.List.{List}
 use Prim.Native.Nat.{ℕ, ◌+◌, ◌-◌, ◌*◌, ◌≤◌, ◌<◌, min, max}
 use native.Mathlib.Omega.{arith}
 use Rattle.rules.specs.Shape.{Shape}
-use Rattle.rules.specs.declared.Rgb.{Rgb}
 use Rattle.rules.specs.declared.Rect.{Rect}
 use Rattle.rules.specs.declared.Outcome.{Outcome}
 use Rattle.rules.specs.Window.{Plane}
@@ -17,7 +16,7 @@ use Rattle.rules.specs.Setup.{Setup, shape}
 use Rattle.rules.specs.Good.{GoodRect}
 use Rattle.rules.specs.Buffers.{pixels, seen_in, masked, values, State, clear, near, patch, placed, pasted, reach, replace}
 use Rattle.rules.specs.Promise.{Lent, state, outcome_said, no_replace, after_replace, Replaces}
-use Rattle.rules.proofs.Near.{Near, Far, near_yes, far_no, near_or_far}
+use Rattle.rules.proofs.Near.{Near, near_yes, far_no, near_or_far}
 use Rattle.rules.proofs.Buffers.{values_entries, pixels_bytes}
 use Rattle.rules.proofs.Good.{rect_good}
 use Rattle.rules.proofs.Exactly.{replace_exact}

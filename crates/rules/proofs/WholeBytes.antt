@@ -4,9 +4,9 @@ use mathlib.Core.Path.{◌≡◌, refl, ap}
 use Prim.Native.Nat.{ℕ, ◌+◌, ◌-◌, ◌*◌, ◌/◌, ◌≤◌, ◌<◌}
 use native.Mathlib.Nat.{mul-div-le, lt-mul-div-succ}
 use native.Mathlib.Omega.{arith}
-use lib.IntN.{ℤ, pos, nat_abs, ◌+ℤ◌, ◌-ℤ◌, ◌*ℤ◌}
+use lib.IntN.{ℤ, pos, ◌+ℤ◌, ◌-ℤ◌, ◌*ℤ◌}
 use Rattle.rules.specs.Picture.{nearest, recover, haze}
-use Rattle.rules.specs.Fraction.{Fraction, whole, ◌+ᶠ◌, ◌≤ᶠ◌, heldᶠ, part, Beside}
+use Rattle.rules.specs.Fraction.{Fraction, heldᶠ, Beside}
 use Rattle.rules.specs.Exact.{recoverᶠ, hazeᶠ, half}
 use Rattle.rules.proofs.Nearest.{nearest_is}
 use Rattle.rules.proofs.Signs.{up, down, plus_is, minus_is, times_is, size_is}

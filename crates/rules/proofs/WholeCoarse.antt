@@ -1,6 +1,6 @@
 -- The coarse value against equation 14 in exact arithmetic: never too low, and less than 1 + ω ten-thousandths too high (`coarse_off`).
 -- Assumes nothing.
-use mathlib.Core.Path.{◌≡◌, refl, ap}
+use mathlib.Core.Path.{◌≡◌, ap}
 use mathlib.Core.List.{List, [], ◌∷◌, map}
 use Prim.Native.Nat.{ℕ, ◌+◌, ◌*◌, ◌/◌, min, ◌≤◌, ◌<◌}
 use native.Mathlib.Nat.{mul-pos, mul-div-le, lt-mul-div-succ, lt_of_mul-lt-mul_left, min_comm, mul-le-mul, mul-le-mul_left, mul-le-mul_right, mul-lt-mul_of_pos_right, mul_comm}
@@ -12,7 +12,7 @@ use Rattle.rules.specs.declared.Rgb.{Rgb}
 use Rattle.rules.specs.Window.{Plane, Shown, window, least}
 use Rattle.rules.specs.Transmission.{ratio, least_ratio, coarse_of, coarse}
 use Rattle.rules.specs.Good.{GoodLight}
-use Rattle.rules.specs.Fraction.{Fraction, whole, ◌+ᶠ◌, ◌-ᶠ◌, ◌*ᶠ◌, ◌/ᶠ◌, ◌<ᶠ◌, ◌≤ᶠ◌, smaller, part, Over}
+use Rattle.rules.specs.Fraction.{Fraction, whole, ◌/ᶠ◌, smaller, Over}
 use Rattle.rules.specs.Exact.{ratioᶠ, least_ratioᶠ, leastᶠ, coarse_ofᶠ, coarseᶠ, coarse_over}
 use Rattle.rules.proofs.Worth.{Worth, worth_as, worth_scale, worth_cancel, worth_whole, worth_over, worth_part, worth_add, worth_sub, worth_mul, worth_div}
 use Rattle.rules.proofs.WorthOrder.{lt_worth, le_worth, smaller_is}

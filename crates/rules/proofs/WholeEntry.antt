@@ -1,6 +1,6 @@
 -- The map entry of a seen pixel against the guided filter in exact arithmetic on the same coarse values, held alike: less than 1 + 766/1024
 -- ten-thousandths too low and less than 765/1024 too high (`entry_off`), and so within 7/4 and 3/4 (`entry_quarters`). Assumes nothing.
-use mathlib.Core.Path.{◌≡◌, refl, sym, ap}
+use mathlib.Core.Path.{◌≡◌, ap}
 use mathlib.Core.Bool.{true}
 use mathlib.Core.List.{List, [], ◌∷◌, map}
 use Prim.Native.Nat.{ℕ, ◌+◌, ◌*◌, ◌≤◌, ◌<◌}
@@ -19,7 +19,7 @@ use Rattle.rules.specs.Fraction.{Fraction, whole, ◌+ᶠ◌, ◌*ᶠ◌, ◌/�
 use Rattle.rules.specs.Exact.{slopeᶠ, offsetᶠ, Lineᶠ, lineᶠ, fitᶠ, refineᶠ, refinedᶠ, entry_under, entry_over}
 use Rattle.rules.proofs.Fold.{fold_map}
 use Rattle.rules.proofs.Signs.{up, down, plus_is, times_is, shr_is}
-use Rattle.rules.proofs.Worth.{Worth, worth_as, worth_scale, worth_whole, worth_over, worth_part, worth_add, worth_line}
+use Rattle.rules.proofs.Worth.{Worth, worth_as, worth_scale, worth_over, worth_part, worth_add, worth_line}
 use Rattle.rules.proofs.WorthOrder.{lt_worth}
 use Rattle.rules.proofs.WorthHeld.{Held, worth_hold}
 use Rattle.rules.proofs.Windowed.{All, none, more, all_window, map_window}

@@ -1,6 +1,5 @@
 -- The bounds are near: frames that come within 0.03 of those of a map entry, within 0.005 of that of a coarse value, and meet half a level.
 -- And case P3 in exact arithmetic. All by computing. Assumes nothing.
-use mathlib.Core.Path.{◌≡◌, refl}
 use Prim.Native.Nat.{ℕ, zero, suc}
 use Rattle.rules.specs.Shape.{Shape}
 use Rattle.rules.specs.declared.Settings.{Settings}

@@ -22,8 +22,8 @@ use Rattle.rules.specs.Setup.{Setup, shape}
 use Rattle.rules.specs.Buffers.{pixels, seen_in, masked, channel, values, hazed, State, shown_by, clear}
 use Rattle.rules.specs.Good.{GoodSettings, GoodLight}
 use Rattle.rules.specs.Refusals.{refuse_haze}
-use Rattle.rules.specs.Promise.{Lent, state, lent, outcome_said, unless, wiped, no_clear, Clears, Hazes}
-use Rattle.rules.specs.Run.{Fresh, Ran, cleared as after_clear, replaced as after_replace}
+use Rattle.rules.specs.Promise.{Lent, state, lent, outcome_said, wiped, no_clear, Clears, Hazes}
+use Rattle.rules.specs.Run.{Ran, cleared as after_clear, replaced as after_replace}
 use Rattle.rules.specs.Fraction.{whole, ◌/ᶠ◌, Off, Over, Beside}
 use Rattle.rules.specs.Exact.{coarseᶠ, mapᶠ, pictureᶠ, hazedᶠ, entry_under, entry_over, coarse_over, half}
 use Rattle.rules.proofs.Buffers.{masked_seen, masked_value, values_entries, pixels_bytes}

@@ -6,7 +6,7 @@ use native.Mathlib.Nat.{mul-pos, mul-le-mul_left}
 use native.Mathlib.Omega.{arith}
 use lib.IntN.{ℤ, pos, negsuc}
 use Rattle.rules.specs.Transmission.{held}
-use Rattle.rules.specs.Fraction.{Fraction, whole, smaller, larger, heldᶠ}
+use Rattle.rules.specs.Fraction.{Fraction, whole, larger, heldᶠ}
 use Rattle.rules.proofs.Signs.{up, down}
 use Rattle.rules.proofs.Worth.{Worth, worth_as, worth_over}
 use Rattle.rules.proofs.WorthOrder.{smaller_is, larger_is}

@@ -5,8 +5,8 @@ use mathlib.Core.Bool.{Bool, true, false, cond}
 use Prim.Native.Nat.{ℕ, ◌+◌, ◌*◌, ◌≤◌, ◌<◌}
 use native.Mathlib.Nat.{mul-pos, mul-le-mul_left, mul-lt-mul_of_pos_left, lt_of_mul-lt-mul_left, le_of_mul-le-mul_left}
 use native.Mathlib.Omega.{arith}
-use lib.IntN.{ℤ, pos, ◌*ℤ◌}
-use lib.Signed.{lt_z, ◌<ℤ◌, ◌≤ℤ◌}
+use lib.IntN.{pos}
+use lib.Signed.{lt_z}
 use Rattle.rules.specs.Fraction.{Fraction, cross, ◌<ᶠ◌, ◌≤ᶠ◌, smaller, larger}
 use Rattle.rules.proofs.Signs.{up, down, times_is, lt_is, le_is, test_yes, test_no}
 use Rattle.rules.proofs.Worth.{Worth}

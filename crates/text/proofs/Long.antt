@@ -18,7 +18,7 @@ use Rattle.fields.specs.declared.Line.TheVariants.{Ends, Broken}
 use Rattle.fields.specs.Words.{bytes}
 use Rattle.fields.specs.Bytes.{class_of, counted, on_class, scan, line_of}
 use Rattle.fields.specs.Every.{every}
-use Rattle.fields.specs.Fields.{joined, split, field_of, same}
+use Rattle.fields.specs.Fields.{joined, split, field_of}
 use Rattle.fields.specs.Decimal.{digit, led, digits, numeral, value_from, number_of, value_in}
 use Rattle.fields.proofs.Decimal.{numeral_most, numeral_led, numeral_digits}
 use Rattle.fields.proofs.Every.{both}

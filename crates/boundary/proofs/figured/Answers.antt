@@ -1,6 +1,5 @@
 -- `boundary::figured` meets its contract. Each branch is a case of the two definitions. Assumes nothing.
 use mathlib.Core.Path.{sym, ap}
-use borrow.Author.Rules.{rules}
 use Rattle.rules.specs.Promise.{band_said}
 use Rattle.boundary.proofs.figured.Goals as goal
 

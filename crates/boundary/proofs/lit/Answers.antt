@@ -1,6 +1,5 @@
 -- `boundary::lit` meets its contract. Each branch is a case of the two definitions. Assumes nothing.
 use mathlib.Core.Path.{sym, ap}
-use borrow.Author.Rules.{rules}
 use Rattle.rules.specs.Promise.{found_said}
 use Rattle.boundary.proofs.lit.Goals as goal
 

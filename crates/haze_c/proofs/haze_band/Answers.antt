@@ -2,7 +2,6 @@
 -- No call asks anything. Assumes nothing.
 use Rattle.haze_c.proofs.Told.{band_returns}
 use Rattle.haze_c.proofs.haze_band.Goals as goal
-use Rattle.haze_c.proofs.haze_band.Goals.{After-figured}
 
 pub returns : goal.returns
 returns c =

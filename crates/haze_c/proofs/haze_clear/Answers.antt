@@ -2,7 +2,6 @@
 -- No call asks anything; a lent buffer comes back with its length. Assumes nothing.
 use Rattle.haze_c.proofs.Told.{clear_returns}
 use Rattle.haze_c.proofs.haze_clear.Goals as goal
-use Rattle.haze_c.proofs.haze_clear.Goals.{After-counted}
 
 pub returns : goal.returns
 returns c =

@@ -2,7 +2,6 @@
 -- No call asks anything; the work area comes back with its length. Assumes nothing.
 use Rattle.haze_c.proofs.Told.{light_returns}
 use Rattle.haze_c.proofs.haze_light.Goals as goal
-use Rattle.haze_c.proofs.haze_light.Goals.{After-lit}
 
 pub returns : goal.returns
 returns c =

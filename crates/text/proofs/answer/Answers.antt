@@ -5,9 +5,7 @@ use Prim.Native.Nat.{ℕ}
 use native.Mathlib.Omega.{arith}
 use Rattle.fields.specs.Written.{Wrote}
 use Rattle.text.proofs.Answering.{reply_fault, reply_more, reply_good, accepted}
-use borrow.Author.Rules.{rules}
 use Rattle.text.proofs.answer.Goals as goal
-use Rattle.text.proofs.answer.Goals.{After-clear_frame, After-clear_frame-arg-1, After-put_bad, After-put_bad-then-next-input}
 
 pub returns-then-next-gt0 : goal.returns-then-next-gt0
 returns-then-next-gt0 c =

@@ -4,9 +4,7 @@ use native.Mathlib.Omega.{arith}
 use lib.Seq.{length-take-le}
 use Rattle.records.proofs.Frames.{few}
 use Rattle.text.proofs.Showing.{prepared}
-use borrow.Author.Rules.{rules}
 use Rattle.text.proofs.clear_frame.Goals as goal
-use Rattle.text.proofs.clear_frame.Goals.{After-show-arg-1}
 
 pub overflow_mul-n : goal.overflow_mul-n
 overflow_mul-n c = omega (arith, few _ c.requires.size_small)

@@ -2,9 +2,7 @@
 use native.Mathlib.Omega.{arith}
 use Rattle.text.specs.Text.{bad_line}
 use Rattle.text.proofs.Writing.{bad_most}
-use borrow.Author.Rules.{rules}
 use Rattle.text.proofs.put_bad.Goals as goal
-use Rattle.text.proofs.put_bad.Goals.{After-numbers-1}
 
 pub put_row-requires : goal.put_row-requires
 put_row-requires c =

@@ -7,10 +7,8 @@ use Rattle.fields.specs.Words.{bytes}
 use Rattle.fields.specs.Written.{row}
 use Rattle.text.specs.Text.{light_line}
 use Rattle.text.proofs.Writing.{light_most}
-use borrow.Author.Rules.{rules}
 use Rattle.text.proofs.put_light.Goals as goal
-use Rattle.text.proofs.put_light.Goals.{After-numbers-1, After-slice_known-2-1}
-
+use Rattle.text.proofs.put_light.Goals.{After-numbers-1}
 
 -- the line fits
 fits : (c : After-numbers-1) → let a = c.args.a in length (row (bytes "light") (a.r ∷ a.g ∷ a.b ∷ [])) ≤ 18

@@ -7,9 +7,8 @@ use Rattle.fields.specs.Words.{bytes}
 use Rattle.fields.specs.Written.{row}
 use Rattle.text.specs.Text.{out_line}
 use Rattle.text.proofs.Writing.{out_most}
-use borrow.Author.Rules.{rules}
 use Rattle.text.proofs.put_out.Goals as goal
-use Rattle.text.proofs.put_out.Goals.{After-numbers-1, After-slice_known-2-1}
+use Rattle.text.proofs.put_out.Goals.{After-numbers-1}
 
 -- the line fits
 fits : (c : After-numbers-1) → let a = c.args in length (row (bytes "out") (a.t ∷ a.r ∷ a.g ∷ a.b ∷ [])) ≤ 22

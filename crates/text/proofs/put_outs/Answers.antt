@@ -1,12 +1,10 @@
 -- `text::put_outs` meets its contract. The invariant is `Listed`: writing the lines that are left from the present place on gives what writing all of
 -- them gives. Assumes nothing.
-use Prim.Native.Nat.{◌-◌}
 use native.Mathlib.Omega.{arith}
 use lib.ListN.{length}
 use Rattle.text.specs.Text.{out_at, outs}
-use Rattle.text.proofs.Writing.{Listed, listed_none, listed_more, listed_done}
+use Rattle.text.proofs.Writing.{listed_none, listed_more, listed_done}
 use Rattle.text.proofs.put_outs.Goals as goal
-use Rattle.text.proofs.put_outs.Goals.{After-loop-p, After-shared_slice_known-2-1, After-slice_known-in-loop-p-1}
 
 pub loop-p-init : goal.loop-p-init
 loop-p-init c =

@@ -1,10 +1,9 @@
 -- `text::put_outs` meets its contract. The invariant is `Listed`: writing the lines that are left from the present place on gives what writing all of
 -- them gives. Assumes nothing.
 use Prim.Native.Nat.{◌-◌}
-use native.Mathlib.Omega.{arith}
 use lib.ListN.{length}
-use Rattle.text.specs.Text.{out_at, outs}
-use Rattle.text.proofs.Writing.{Listed, listed_none, listed_more, listed_done}
+use Rattle.text.specs.Text.{out_at}
+use Rattle.text.proofs.Writing.{Listed}
 use Rattle.text.proofs.put_outs.Given as goal
 
 abbrev pub invariant-loop-p : goal.invariant-loop-p

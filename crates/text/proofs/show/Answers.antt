@@ -2,7 +2,6 @@
 use Rattle.text.proofs.Showing.{never, finished}
 use borrow.Author.Rules.{rules}
 use Rattle.text.proofs.show.Goals as goal
-use Rattle.text.proofs.show.Goals.{After-slice_known-in-Light-4-1, In-Refused}
 
 pub put_outs-requires : goal.put_outs-requires
 put_outs-requires c = search (rules, c.requires)

@@ -2,7 +2,6 @@
 -- No call asks anything; a lent buffer comes back with its length. Assumes nothing.
 use Rattle.haze_files_c.proofs.Told.{depths_returns}
 use Rattle.haze_files_c.proofs.depths.haze_depths.Goals as goal
-use Rattle.haze_files_c.proofs.depths.haze_depths.Goals.{After-number}
 
 pub returns : goal.returns
 returns c =

@@ -1,5 +1,4 @@
 -- `haze_files_c::netpbm::haze_pnm_header` meets its contract. The four numbers go into their places and 0 is returned, or 11. Assumes nothing.
-use borrow.Author.Rules.{rules}
 use Rattle.haze_files_c.proofs.Told.{header_read, header_refused}
 use Rattle.haze_files_c.proofs.netpbm.haze_pnm_header.Goals as goal
 

@@ -2,7 +2,6 @@
 -- No call asks anything; a lent buffer comes back with its length. Assumes nothing.
 use Rattle.haze_files_c.proofs.Told.{write_returns}
 use Rattle.haze_files_c.proofs.netpbm.haze_ppm_write.Goals as goal
-use Rattle.haze_files_c.proofs.netpbm.haze_ppm_write.Goals.{After-number}
 
 pub returns : goal.returns
 returns c =

@@ -1,6 +1,5 @@
 -- `haze_files_c::netpbm::told` meets its contract. Each branch is a case of the two definitions. Assumes nothing.
 use mathlib.Core.Path.{sym, ap}
-use borrow.Author.Rules.{rules}
 use Rattle.ppm.specs.Promise.{taken_said}
 use Rattle.haze_files_c.proofs.netpbm.told.Goals as goal
 
