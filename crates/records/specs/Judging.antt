@@ -37,7 +37,7 @@ line_at input n = field_of 10 input n
 abbrev pub cells : Size → ℕ
 cells z = z.w * z.h
 
--- `size`, then `set`, then W-as-H times `px`
+-- `size`, then `set`, then W·H times `px`
 abbrev pub kinds : ℕ → List Kind
 kinds n = kind_size ∷ kind_set ∷ replicate n kind_px
 

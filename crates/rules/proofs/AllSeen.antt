@@ -18,7 +18,7 @@ use Rattle.rules.proofs.Buffers.{place_lt, seen_byte, patch_cong, entries_cong, 
 use Rattle.rules.proofs.Unseen.{SameIn, places_same, light_same, entry_same, cleared_same}
 use Rattle.rules.proofs.Plain.{light_all, refined_all, cleared_all, plain_number, plain_light, plain_entry, plain_cleared}
 
--- none of the first W-as-H bytes is 0
+-- none of the first W·H bytes is 0
 abbrev pub AllSeen : Shape → List ℕ → Type 0
 AllSeen z mask = (p : ℕ) → p < z.w * z.h → get_or mask p 0 ≡ 0 → ⊥
 

@@ -1,7 +1,7 @@
 -- What Replace does, pixel by pixel. The frame has the new pixels in the rectangle (`pasted_inside`) and the old ones outside (`pasted_outside`), seen and
 -- hidden as before (`shown_inside`, `shown_outside`). Map entries and cleared pixels at most s + 2·r rows and s + 2·r columns from the rectangle are
 -- those of a clearing of the new frame: of the rules (`replace_anew`), and of a call that keeps its promise (`replaces_anew`). All others stay
--- (`Run.replace-alone`, `Run.replaces-alone`). To be so near the rectangle is to have a pixel of it so near (`near_some`, `some_near`). Assumes nothing.
+-- (`Run.replace_alone`, `Run.replaces_alone`). To be so near the rectangle is to have a pixel of it so near (`near_some`, `some_near`). Assumes nothing.
 use mathlib.Core.Path.{◌≡◌, sym, ap₂, ◌∙◌}
 use mathlib.Core.Logic.{⊎_elim}
 use mathlib.Core.Bool.{Bool, true}

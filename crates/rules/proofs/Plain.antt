@@ -23,7 +23,7 @@ use Rattle.rules.proofs.Order.{upto}
 unfoldable pub dark_all : Shape → ℕ → Plane Rgb → Plane ℕ
 dark_all z s f y x = least 255 (square z.w z.h s (λ v u. darkest (f v u)) y x)
 
--- all W-as-H positions, and m of their number
+-- all W·H positions, and m of their number
 unfoldable pub candidates_all : Shape → Settings → Plane Rgb → List ℕ
 candidates_all z k f = keep (λ p. ltb (rank (upto 0 (z.w * z.h)) (at z (dark_all z k.s f)) p) (m (z.w * z.h) k)) (upto 0 (z.w * z.h))
 

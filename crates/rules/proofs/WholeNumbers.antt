@@ -2,7 +2,7 @@
 -- ten-thousandths too low and less than 765/1024 too high against the guided filter in exact arithmetic (`clear_entry`; `clear_quarters`: 7/4 and 3/4),
 -- the coarse values that it goes by are never too low and less than 1 + ω too high (`clear_coarse`), and each byte of the picture is at most half a level
 -- off (`clear_byte`). The same holds after any run of replacements (`ran_entry`, `ran_byte`). A hazed byte is at most half a level off (`haze_byte`).
--- The entry of a hidden pixel is 10,000, exactly (proofs/Hidden). Assumes nothing.
+-- The entry of a hidden pixel is 10,000, exactly (proofs/HiddenPixels). Assumes nothing.
 use mathlib.Core.Path.{◌≡◌, refl, sym, ap, ◌∙◌}
 use mathlib.Core.Bool.{true}
 use mathlib.Core.List.{List}

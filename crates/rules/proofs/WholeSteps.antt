@@ -11,7 +11,7 @@ use Rattle.rules.proofs.Worth.{Worth, worth_whole, worth_over, worth_scale, wort
 use Rattle.rules.proofs.WorthOrder.{le_worth}
 use Rattle.rules.proofs.Windowed.{All, none, more}
 
--- slopes A and C and offsets B and D, or sums of N of each, over E: at a guide g, A·g + B is at most C·g + D + H-as-N
+-- slopes A and C and offsets B and D, or sums of N of each, over E: at a guide g, A·g + B is at most C·g + D + H·N
 pub record Step (H g N : ℕ) (A B C D : Fraction) (E : ℕ) : Type 0 where
   pub ax : ℕ
   pub ay : ℕ

@@ -26,7 +26,7 @@ recover a i t = held 255 (pos a +ℤ nearest ((pos i -ℤ pos a) *ℤ pos 10000)
 unfoldable pub recover3 : Rgb → Rgb → ℕ → Rgb
 recover3 a i t = record { r = recover a.r i.r t; g = recover a.g i.g t; b = recover a.b i.b t }
 
--- the cleared pixel: T is the larger of map entry and t0. At a hidden pixel T is 10,000, and that is the pixel itself (proofs/Hidden)
+-- the cleared pixel: T is the larger of map entry and t0. At a hidden pixel T is 10,000, and that is the pixel itself (proofs/HiddenPixels)
 unfoldable pub cleared : Shape → Settings → Rgb → Plane (Shown Rgb) → Plane Rgb
 cleared z k a f y x = recover3 a (f y x).value (max (map_entry z k a f y x) k.t0)
 

@@ -24,7 +24,7 @@ off n m = not (eqb n m)
 
 -- ---- the table
 
--- 1: W, H or W-as-H is outside its range
+-- 1: W, H or W·H is outside its range
 unfoldable pub bad_size : Size → Bool
 bad_size z = out 1 1024 z.w || out 1 1024 z.h || ltb 262144 (z.w * z.h)
 
@@ -37,7 +37,7 @@ bad_settings k =
 unfoldable pub bad_frame : Size → ℕ → Bool
 bad_frame z n = off n (3 * (z.w * z.h))
 
--- 4: a map isn't W-as-H entries, a mask isn't W-as-H bytes, or the work area has fewer than 8·(W+1)·(H+1) entries
+-- 4: a map isn't W·H entries, a mask isn't W·H bytes, or the work area has fewer than 8·(W+1)·(H+1) entries
 unfoldable pub bad_map : Size → ℕ → Bool
 bad_map z n = off n (z.w * z.h)
 
