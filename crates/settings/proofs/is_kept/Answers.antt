@@ -1,5 +1,6 @@
 -- `settings::is_kept` meets its contract: the word, the number of fields, the name, then the value. Assumes nothing.
 use mathlib.Core.Path.{◌≡◌, sym, ap, ◌∙◌}
+use native.Mathlib.Omega.{arith}
 use mathlib.Core.Bool.{true}
 use mathlib.Core.List.{List}
 use Prim.Native.Nat.{ℕ}
@@ -27,13 +28,13 @@ keep : (c : Else-not-same) → same (field_of 9 c.args.line.now 0) (bytes "keep"
 keep c = told (goal.at.Else-not-same c).After-same ∙ c.if-not-same.false
 
 three : (c : Else-count-ne3) → length (split 9 c.args.line.now) ≡ 3
-three c = sym c.requires ∙ c.if-count-ne3.false
+three c = omega (arith, c.requires, c.if-count-ne3.false)
 
 pub returns-then-not-same : goal.returns-then-not-same
 returns-then-not-same c = laid_word word (bytes "keep") _ 2 (told (goal.at.returns-then-not-same c).After-same ∙ c.if-not-same.true)
 
 pub returns-then-count-ne3 : goal.returns-then-count-ne3
-returns-then-count-ne3 c = laid_count word (bytes "keep") _ 2 (keep (goal.at.returns-then-count-ne3 c).Else-not-same) (λ e. c.if-count-ne3.true (c.requires ∙ e))
+returns-then-count-ne3 c = laid_count word (bytes "keep") _ 2 (keep (goal.at.returns-then-count-ne3 c).Else-not-same) (λ e. c.if-count-ne3.true (omega (arith, c.requires, e)))
 
 pub returns-then-not-is_word : goal.returns-then-not-is_word
 returns-then-not-is_word c =
