@@ -1,7 +1,7 @@
 // A box in a plane, and the wiping of the lent work area. What stands in the area between the passes is said in `specs/Stage`.
 #![tactic(auto)]
 
-ghost use Rattle.std.specs.Prelude.{◌≡◌, ◌+◌, ◌*◌, ◌≤◌, ◌<◌, ◌++◌, length, drop, replicate, pos};
+ghost use Rattle.std.specs.Prelude.{◌≡◌, cond, not, eqb, ◌+◌, ◌*◌, ◌≤◌, ◌<◌, ◌++◌, length, drop, replicate, pos};
 ghost use Rattle.planes.specs.View.{InPlane, row_start};
 
 // A box in a plane: the plane's columns and rows, the box's first row and column, and its columns and rows.
@@ -21,6 +21,13 @@ pub fn row_start(v: View, y: usize) -> usize
     ensures { (result ≡ row_start v y) × (result + v.wide ≤ v.w * v.h) }
 {
     (v.top + y) * v.w + v.left
+}
+
+// What is told of a pixel, or what stands for it where the mask's byte m hides the pixel.
+pub fn seen_or<T: Copy>(m: u8, told: T, hidden: T) -> T
+    ensures { result ≡ cond (not (eqb m 0)) told hidden }
+{
+    if m == 0 { hidden } else { told }
 }
 
 // The first n entries become 0, the rest is as it was.
