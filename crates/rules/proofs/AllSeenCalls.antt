@@ -14,14 +14,16 @@ use Rattle.rules.specs.declared.Size.{Size}
 use Rattle.rules.specs.declared.Settings.{Settings}
 use Rattle.rules.specs.declared.Rgb.{Rgb}
 use Rattle.rules.specs.declared.Rect.{Rect}
-use Rattle.rules.specs.declared.Outcome.{Outcome}
-use Rattle.rules.specs.declared.Found.{Found}
+use Rattle.std.specs.Prelude.{Result}
+use Rattle.rules.specs.declared.Refusal.{Refusal}
+use Rattle.rules.specs.declared.Finding.{Finding}
 use Rattle.rules.specs.Light.{light}
 use Rattle.rules.specs.Setup.{handed}
 use Rattle.rules.specs.Buffers.{pixels, masked, State}
 use Rattle.rules.specs.Refusals.{first, bad_size, bad_settings, bad_frame, bad_map, bad_mask, bad_work, bad_light, bad_rect, bad_new, bad_seen, refuse_light, refuse_clear, refuse_replace}
 use Rattle.rules.specs.Count.{frame_comparisons, part_comparisons, clear_comparisons, replace_comparisons}
-use Rattle.rules.specs.Promise.{Lent, state, lent, outcome_or, found_or, finding_of, unless, wiped, no_light, no_clear, no_replace, Lights, Clears, Replaces}
+use Rattle.rules.specs.Answers.{or}
+use Rattle.rules.specs.Promise.{Lent, state, lent, finding_of, unless, wiped, no_light, no_clear, no_replace, Lights, Clears, Replaces}
 use Rattle.rules.proofs.Good.{size_good, settings_good, seen_none}
 use Rattle.rules.proofs.Exactly.{light_exact}
 use Rattle.rules.proofs.UnseenCalls.{found_same}
@@ -85,11 +87,11 @@ pub record Whole (z : Size) (mask : List ℕ) : Type 0 where
 
 module _ (z : Size) (k : Settings) (frame : List ℕ) (work : List ℤ) where
   -- what it answers, and leaves in the work area
-  pub record LightsAll (r : Found) (work' : List ℤ) : Type 0 where
-    pub answer : r ≡ found_or (refuse_light_all z k frame work) (finding_of (light_all (described z) k (pixels (described z) frame)) (frame_comparisons (described z) k.s))
+  pub record LightsAll (r : Result Finding Refusal) (work' : List ℤ) : Type 0 where
+    pub answer : r ≡ or (refuse_light_all z k frame work) (finding_of (light_all (described z) k (pixels (described z) frame)) (frame_comparisons (described z) k.s))
     pub after : work' ≡ unless (refuse_light_all z k frame work) (wiped (described z) work) work
 
-  pub lights_all : (mask : List ℕ) (r : Found) (work' : List ℤ) → Whole z mask → Lights z k mask frame work r work' → LightsAll r work'
+  pub lights_all : (mask : List ℕ) (r : Result Finding Refusal) (work' : List ℤ) → Whole z mask → Lights z k mask frame work r work' → LightsAll r work'
   lights_all mask r work' w q =
       let n = all_no_light z k mask frame work w.seen w.long in
       let f = pixels (described z) frame in
@@ -99,11 +101,11 @@ module _ (z : Size) (k : Settings) (frame : List ℕ) (work : List ℤ) where
       let g = size_good z free.0 in
       all_light (described z) mask w.seen frame k (mul-pos g.across g.down) (settings_good k free.1.0).share_most in
       record {
-        answer = q.answer ∙ found_same (no_light z k mask frame work) _ _ _ same ∙ ap (λ (i : ℕ). found_or i (finding_of (light_all (described z) k f) (frame_comparisons (described z) k.s))) n;
+        answer = q.answer ∙ found_same (no_light z k mask frame work) _ _ _ same ∙ ap (λ (i : ℕ). or i (finding_of (light_all (described z) k f) (frame_comparisons (described z) k.s))) n;
         after = q.after ∙ ap (λ (i : ℕ). unless i (wiped (described z) work) work) n;
       }
 
-  pub lights_either : (mask mask' : List ℕ) (r r' : Found) (o o' : List ℤ) → Whole z mask → Whole z mask' → Lights z k mask frame work r o → Lights z k mask' frame work r' o'
+  pub lights_either : (mask mask' : List ℕ) (r r' : Result Finding Refusal) (o o' : List ℤ) → Whole z mask → Whole z mask' → Lights z k mask frame work r o → Lights z k mask' frame work r' o'
       → (r ≡ r') × (o ≡ o')
   lights_either mask mask' r r' o o' w w' q q' =
       let a = lights_all mask r o w q in
@@ -114,33 +116,33 @@ module _ (z : Size) (k : Settings) (frame : List ℕ) (work : List ℤ) where
 
 module _ (z : Size) (k : Settings) (a : Rgb) (l : Lent) where
   -- what a call answers and leaves, by its number and the comparisons and the state of one that is accepted
-  pub record Left (n count : ℕ) (s : State) (r : Outcome) (m : Lent) : Type 0 where
-    pub answer : r ≡ outcome_or n count
+  pub record Left (n count : ℕ) (s : State) (r : Result ℕ Refusal) (m : Lent) : Type 0 where
+    pub answer : r ≡ or n count
     pub after : m ≡ unless n (lent s (wiped (described z) l.work)) l
 
-  pub clears_all : (mask : List ℕ) (r : Outcome) (m : Lent) → Whole z mask → Clears (handed z k a mask) l r m
+  pub clears_all : (mask : List ℕ) (r : Result ℕ Refusal) (m : Lent) → Whole z mask → Clears (handed z k a mask) l r m
       → Left (refuse_clear_all z k a l) (frame_comparisons (described z) k.s) (clear_all (described z) k a l.frame) r m
   unfolding refuse_clear
   clears_all mask r m w q =
       let p = handed z k a mask in
       let n : no_clear p l ≡ refuse_clear_all z k a l = rw (mask_fits z (length mask) w.long) in
       record {
-        answer = q.answer ∙ ap (λ (i : ℕ). outcome_or i (clear_comparisons p)) n;
+        answer = q.answer ∙ ap (λ (i : ℕ). or i (clear_comparisons p)) n;
         after = q.after ∙ ap₂ (λ (i : ℕ) (s : State). unless i (lent s (wiped (described z) l.work)) l) n (all_clear p w.seen l.frame);
       }
 
-  pub replaces_all : (c : Rect) (new mask : List ℕ) (r : Outcome) (m : Lent) → Whole z mask → Replaces (handed z k a mask) c new l r m
+  pub replaces_all : (c : Rect) (new mask : List ℕ) (r : Result ℕ Refusal) (m : Lent) → Whole z mask → Replaces (handed z k a mask) c new l r m
       → Left (refuse_replace_all z k a c new l) (part_comparisons (described z) k c) (replace_all (described z) k a c new (state l)) r m
   unfolding refuse_replace
   replaces_all c new mask r m w q =
       let p = handed z k a mask in
       let n : no_replace p c new l ≡ refuse_replace_all z k a c new l = rw (mask_fits z (length mask) w.long) in
       record {
-        answer = q.answer ∙ ap (λ (i : ℕ). outcome_or i (replace_comparisons p c)) n;
+        answer = q.answer ∙ ap (λ (i : ℕ). or i (replace_comparisons p c)) n;
         after = q.after ∙ ap₂ (λ (i : ℕ) (s : State). unless i (lent s (wiped (described z) l.work)) l) n (all_replace p w.seen c new (state l));
       }
 
-  pub clears_either : (mask mask' : List ℕ) (r r' : Outcome) (m m' : Lent) → Whole z mask → Whole z mask' → Clears (handed z k a mask) l r m → Clears (handed z k a mask') l r' m'
+  pub clears_either : (mask mask' : List ℕ) (r r' : Result ℕ Refusal) (m m' : Lent) → Whole z mask → Whole z mask' → Clears (handed z k a mask) l r m → Clears (handed z k a mask') l r' m'
       → (r ≡ r') × (m ≡ m')
   clears_either mask mask' r r' m m' w w' q q' =
       let b = clears_all mask r m w q in
@@ -148,7 +150,7 @@ module _ (z : Size) (k : Settings) (a : Rgb) (l : Lent) where
       (cc, cc)
 
   pub replaces_either :
-      (c : Rect) (new mask mask' : List ℕ) (r r' : Outcome) (m m' : Lent)
+      (c : Rect) (new mask mask' : List ℕ) (r r' : Result ℕ Refusal) (m m' : Lent)
       → Whole z mask
       → Whole z mask'
       → Replaces (handed z k a mask) c new l r m

@@ -1,67 +1,121 @@
--- The laws of all answers, over the case that carries the value and the case that carries the number, and of what stands in a buffer: each is closed by
--- the call's number n, where m is the rules' number. Assumes nothing.
+-- The laws of all answers, over the value and the refusal, and of what stands in a buffer: each is closed by the call's number n, where m is the rules'
+-- number. Assumes nothing.
 use mathlib.Core.Path.{◌≡◌, refl, sym, ap, ◌∙◌}
-use Prim.Native.Nat.{ℕ, zero, suc}
-use Rattle.rules.specs.declared.Finding.{Finding}
+use Prim.Native.Nat.{ℕ, zero, suc, ◌≤◌}
+use native.Mathlib.Omega.{arith}
+use Rattle.std.specs.Prelude.{Result, Ok, Err}
 use Rattle.rules.specs.declared.Figure.{Figure}
-use Rattle.rules.specs.declared.Answer.TheVariants as answer
-use Rattle.rules.specs.declared.Outcome.{Outcome}
-use Rattle.rules.specs.declared.Outcome.TheVariants as outcome
-use Rattle.rules.specs.declared.Found.TheVariants as found
+use Rattle.rules.specs.declared.Refusal.{Refusal}
+use Rattle.rules.specs.declared.Refusal.TheVariants as refusal
 use Rattle.rules.specs.declared.Band.TheVariants as band
-use Rattle.rules.specs.Promise.{or, answered, outcome_or, found_or, figure_or, said, outcome_said, found_said, band_said, unless}
+use Rattle.rules.specs.Answers.{number, numbered, or, said, left}
+use Rattle.rules.specs.Promise.{figure_or, band_said, unless}
+
+-- ---- a refusal and its number
+
+-- no refusal has the number 0
+pub number_some : (e : Refusal) → number e ≡ 0 → ⊥
+number_some refusal.Size h = omega arith
+number_some refusal.Settings h = omega arith
+number_some refusal.Frame h = omega arith
+number_some refusal.Loan h = omega arith
+number_some refusal.Light h = omega arith
+number_some refusal.Place h = omega arith
+number_some refusal.Pixels h = omega arith
+number_some refusal.Entry h = omega arith
+number_some refusal.Layout h = omega arith
+number_some refusal.Large h = omega arith
+number_some refusal.Header h = omega arith
+number_some refusal.Maximum h = omega arith
+number_some refusal.Bytes h = omega arith
+number_some refusal.Unseen h = omega arith
+number_some refusal.Name h = omega arith
+
+-- each refusal is the one that has its number
+pub numbered_number : (e : Refusal) → numbered (number e) ≡ e
+numbered_number refusal.Size = refl
+numbered_number refusal.Settings = refl
+numbered_number refusal.Frame = refl
+numbered_number refusal.Loan = refl
+numbered_number refusal.Light = refl
+numbered_number refusal.Place = refl
+numbered_number refusal.Pixels = refl
+numbered_number refusal.Entry = refl
+numbered_number refusal.Layout = refl
+numbered_number refusal.Large = refl
+numbered_number refusal.Header = refl
+numbered_number refusal.Maximum = refl
+numbered_number refusal.Bytes = refl
+numbered_number refusal.Unseen = refl
+numbered_number refusal.Name = refl
+
+-- and each number from 1 to 15 is that of the refusal that has it
+pub number_numbered : (n : ℕ) → n ≤ 14 → number (numbered (suc n)) ≡ suc n
+number_numbered zero h = refl
+number_numbered (suc zero) h = refl
+number_numbered (suc (suc zero)) h = refl
+number_numbered (suc (suc (suc zero))) h = refl
+number_numbered (suc (suc (suc (suc zero)))) h = refl
+number_numbered (suc (suc (suc (suc (suc zero))))) h = refl
+number_numbered (suc (suc (suc (suc (suc (suc zero)))))) h = refl
+number_numbered (suc (suc (suc (suc (suc (suc (suc zero))))))) h = refl
+number_numbered (suc (suc (suc (suc (suc (suc (suc (suc zero)))))))) h = refl
+number_numbered (suc (suc (suc (suc (suc (suc (suc (suc (suc zero))))))))) h = refl
+number_numbered (suc (suc (suc (suc (suc (suc (suc (suc (suc (suc zero)))))))))) h = refl
+number_numbered (suc (suc (suc (suc (suc (suc (suc (suc (suc (suc (suc zero))))))))))) h = refl
+number_numbered (suc (suc (suc (suc (suc (suc (suc (suc (suc (suc (suc (suc zero)))))))))))) h = refl
+number_numbered (suc (suc (suc (suc (suc (suc (suc (suc (suc (suc (suc (suc (suc zero))))))))))))) h = refl
+number_numbered (suc (suc (suc (suc (suc (suc (suc (suc (suc (suc (suc (suc (suc (suc zero)))))))))))))) h = refl
+number_numbered (suc (suc (suc (suc (suc (suc (suc (suc (suc (suc (suc (suc (suc (suc (suc n))))))))))))))) h = absurd (let e : ⊥ = omega arith in e)
 
 -- ---- any answer
 
-module _ {A B : Type 0} (ok : B → A) (bad : ℕ → A) where
-  pub or_refused : (n m : ℕ) (v : B) → n ≡ m → (n ≡ 0 → ⊥) → bad n ≡ or ok bad m v
-  or_refused n zero v e h = absurd (h e)
-  or_refused n (suc m) v e h = ap bad e
+module _ {A : Type 0} where
+  -- a refusal with the rules' number is the answer
+  pub or_refused : (e : Refusal) (m : ℕ) (v : A) → number e ≡ m → Err e ≡ or m v
+  or_refused e zero v h = absurd (number_some e h)
+  or_refused e (suc m) v h = ap Err (sym (numbered_number e) ∙ ap numbered h)
 
-  pub or_done : (m : ℕ) (v : B) → m ≡ 0 → ok v ≡ or ok bad m v
+  pub or_done : (m : ℕ) (v : A) → m ≡ 0 → Ok v ≡ or m v
   or_done m v e = rw e
 
   -- an answer says its number
-  pub or_said : (says : A → ℕ) → ((v : B) → says (ok v) ≡ 0) → ((n : ℕ) → says (bad n) ≡ n) → (n : ℕ) (v : B) → says (or ok bad n v) ≡ n
-  or_said says p q zero v = p v
-  or_said says p q (suc n) v = q (suc n)
+  pub said_or : (n : ℕ) (v : A) → n ≤ 15 → said (or n v) ≡ n
+  said_or zero v h = refl
+  said_or (suc n) v h = number_numbered n (omega arith)
+
+  -- a call that says 0 was not refused
+  pub or_free : (n : ℕ) (v : A) (r : Result A Refusal) → r ≡ or n v → said r ≡ 0 → n ≡ 0
+  or_free zero v r e d = refl
+  or_free (suc n) v r e d = absurd (number_some (numbered (suc n)) (ap said (sym e) ∙ d))
 
   -- what it leaves in the place of its value: the value that it carries, or the old one
-  pub or_left :
-      (left : A → B → B)
-      → ((v old : B) → left (ok v) old ≡ v)
-      → ((n : ℕ) (old : B) → left (bad n) old ≡ old)
-      → (n : ℕ) (v old : B)
-      → left (or ok bad n v) old ≡ unless n v old
-  or_left left p q zero v old = p v old
-  or_left left p q (suc n) v old = q (suc n) old
+  pub left_or : (n : ℕ) (v old : A) → left (or n v) old ≡ unless n v old
+  left_or zero v old = refl
+  left_or (suc n) v old = refl
 
--- ---- each of them
+-- a call whose answer has a value was not refused, and its value is that
+pub or_is : {A : Type 0} (n : ℕ) (v w : A) → Ok w ≡ or n v → (n ≡ 0) × (w ≡ v)
+or_is {A} n v w e =
+    let free : n ≡ 0 = or_free n v (Ok w) e refl in
+    (free, ap (λ (r : Result A Refusal). left r w) (e ∙ ap (λ (i : ℕ). or i v) free))
 
-pub said_answered : (n : ℕ) → said (answered n) ≡ n
-said_answered n = or_said (λ (v : Unit {0}). answer.Done) answer.Refused said (λ v. refl) (λ n. refl) n tt
+-- ---- that of Band figure
 
-pub said_outcome : (n count : ℕ) → outcome_said (outcome_or n count) ≡ n
-said_outcome = or_said outcome.Done outcome.Refused outcome_said (λ c. refl) (λ n. refl)
+pub figure_refused : (e : Refusal) (m : ℕ) (f : Figure) → number e ≡ m → band.Refused e ≡ figure_or m f
+figure_refused e zero f h = absurd (number_some e h)
+figure_refused e (suc m) f h = ap band.Refused (sym (numbered_number e) ∙ ap numbered h)
 
-pub said_found : (n : ℕ) (a : Finding) → found_said (found_or n a) ≡ n
-said_found = or_said found.Light found.Refused found_said (λ a. refl) (λ n. refl)
+pub figure_done : (m : ℕ) (f : Figure) → m ≡ 0 → band.Figure f ≡ figure_or m f
+figure_done m f e = rw e
 
-pub said_band : (n : ℕ) (f : Figure) → band_said (figure_or n f) ≡ n
-said_band = or_said band.Figure band.Refused band_said (λ f. refl) (λ n. refl)
+pub said_band : (n : ℕ) (f : Figure) → n ≤ 15 → band_said (figure_or n f) ≡ n
+said_band zero f h = refl
+said_band (suc n) f h = number_numbered n (omega arith)
 
-pub refused : (n m : ℕ) → n ≡ m → (n ≡ 0 → ⊥) → answer.Refused n ≡ answered m
-refused n m = or_refused (λ (v : Unit {0}). answer.Done) answer.Refused n m tt
-
-pub done : (m : ℕ) → m ≡ 0 → answer.Done ≡ answered m
-done m = or_done (λ (v : Unit {0}). answer.Done) answer.Refused m tt
-
--- a call that is done was not refused
-pub done_free : (n : ℕ) → answered n ≡ answer.Done → n ≡ 0
-done_free n e = sym (said_answered n) ∙ ap said e
-
-pub outcome_free : (n count : ℕ) (r : Outcome) → r ≡ outcome_or n count → outcome_said r ≡ 0 → n ≡ 0
-outcome_free n count r e d = sym (said_outcome n count) ∙ ap outcome_said (sym e) ∙ d
+pub figure_free : (n : ℕ) (f g : Figure) → figure_or n f ≡ band.Figure g → n ≡ 0
+figure_free zero f g e = refl
+figure_free (suc n) f g e = absurd (number_some (numbered (suc n)) (ap band_said e))
 
 -- ---- a buffer: what stood there, or the new value
 

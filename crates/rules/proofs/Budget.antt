@@ -16,16 +16,14 @@ use Rattle.rules.specs.declared.Size.{Size}
 use Rattle.rules.specs.declared.Settings.{Settings}
 use Rattle.rules.specs.declared.Rect.{Rect}
 use Rattle.rules.specs.declared.Finding.{Finding}
-use Rattle.rules.specs.declared.Outcome.{Outcome}
-use Rattle.rules.specs.declared.Outcome.TheVariants as outcome
-use Rattle.rules.specs.declared.Found.{Found}
-use Rattle.rules.specs.declared.Found.TheVariants as found
+use Rattle.std.specs.Prelude.{Ok}
 use Rattle.rules.specs.Setup.{Setup, shape}
 use Rattle.rules.specs.Good.{GoodSize, GoodRect}
 use Rattle.rules.specs.Refusals.{bad_size, bad_settings, bad_seen}
 use Rattle.rules.specs.Count.{comparisons, samples, frame_comparisons, part_shape}
-use Rattle.rules.specs.Promise.{or, outcome_or, outcome_said, found_said, Lent, Lights, Clears, Replaces, Budgets}
+use Rattle.rules.specs.Promise.{Lent, Lights, Clears, Replaces, Budgets}
 use Rattle.rules.proofs.Good.{size_good, settings_good, rect_good}
+use Rattle.rules.proofs.Answers.{or_is}
 use Rattle.rules.proofs.Exactly.{light_exact, clear_exact, replace_exact}
 use Rattle.rules.proofs.Count.{samples_at_most, zero_count}
 use Rattle.rules.proofs.Grown.{grown_good}
@@ -88,27 +86,9 @@ size_free z g =
 
 -- it says n comparisons at radius s, Light and Clear for a frame of size z, Replace for a part of that size
 pub data Took : Size → ℕ → ℕ → Type 0 where
-  lit : {z : Size} {k : Settings} {mask frame : List ℕ} {work work' : List ℤ} {f : Finding} → Lights z k mask frame work (found.Light f) work' → Took z k.s f.comparisons
-  cleared : {p : Setup} {l m : Lent} {n : ℕ} → Clears p l (outcome.Done n) m → Took p.size p.settings.s n
-  replaced : {p : Setup} {c : Rect} {new : List ℕ} {l m : Lent} {n : ℕ} → Replaces p c new l (outcome.Done n) m → Took (part p c) p.settings.s n
-
--- the count that an answer carries
-abbrev outcome_count : Outcome → ℕ
-outcome_count (outcome.Done n) = n
-outcome_count (outcome.Refused n) = 0
-
-abbrev found_count : Found → ℕ
-found_count (found.Light f) = f.comparisons
-found_count (found.Refused n) = 0
-
--- an answer that carries w is no refusal, and w counts as v does
-module _ {A B : Type 0} (ok : B → A) (bad : ℕ → A) (says count : A → ℕ) (says_ok : (v : B) → says (ok v) ≡ 0) (says_bad : (n : ℕ) → says (bad n) ≡ n) where
-  or_is : (n : ℕ) (v w : B) → ok w ≡ or ok bad n v → (n ≡ 0) × (count (ok w) ≡ count (ok v))
-  or_is zero v w e = (refl, ap count e)
-  or_is (suc n) v w e = absurd (let z : 0 ≡ suc n = sym (says_ok w) ∙ ap says e ∙ says_bad (suc n) in omega arith)
-
-outcome_is : (n v w : ℕ) → outcome.Done w ≡ outcome_or n v → (n ≡ 0) × (w ≡ v)
-outcome_is = or_is outcome.Done outcome.Refused outcome_said outcome_count (λ v. refl) (λ n. refl)
+  lit : {z : Size} {k : Settings} {mask frame : List ℕ} {work work' : List ℤ} {f : Finding} → Lights z k mask frame work (Ok f) work' → Took z k.s f.comparisons
+  cleared : {p : Setup} {l m : Lent} {n : ℕ} → Clears p l (Ok n) m → Took p.size p.settings.s n
+  replaced : {p : Setup} {c : Rect} {new : List ℕ} {l m : Lent} {n : ℕ} → Replaces p c new l (Ok n) m → Took (part p c) p.settings.s n
 
 -- size and radius are in range, and they determine the number
 pub record Determined (z : Size) (s n : ℕ) : Type 0 where
@@ -118,15 +98,15 @@ pub record Determined (z : Size) (s n : ℕ) : Type 0 where
 
 pub took_count : (z : Size) (s n : ℕ) → Took z s n → Determined z s n
 took_count z s n (lit {k = k} {mask = mask} {frame = frame} {work = work} q) =
-    let a = or_is found.Light found.Refused found_said found_count (λ v. refl) (λ n. refl) _ _ _ q.answer in
+    let a = or_is _ _ _ q.answer in
     let free = (light_exact z k (length mask) (bad_seen mask) (length frame) (length work)).free a.0 in
-    record { size = size_good z free.0; radius = (settings_good k free.1.0).s_most; count = a.1 }
+    record { size = size_good z free.0; radius = (settings_good k free.1.0).s_most; count = ap (λ (f : Finding). f.comparisons) a.1 }
 took_count z s n (cleared {p = p} {l = l} q) =
-    let a = outcome_is _ _ _ q.answer in
+    let a = or_is _ _ _ q.answer in
     let free = (clear_exact p l).free a.0 in
     record { size = size_good p.size free.0; radius = (settings_good p.settings free.1.0).s_most; count = a.1 }
 took_count z s n (replaced {p = p} {c = c} {new = new} {l = l} q) =
-    let a = outcome_is _ _ _ q.answer in
+    let a = or_is _ _ _ q.answer in
     let free = (replace_exact p c new l).free a.0 in
     record {
       size = part_good p c (size_good p.size free.0) (rect_good p.size c free.1.1.1.1.1.0);
@@ -150,7 +130,7 @@ pub took_none : (z : Size) (n : ℕ) → Took z 0 n → n ≡ 0
 took_none z n t = (took_count z 0 n t).count ∙ frame_none (described z)
 
 -- Replace takes at most 6 for each pixel of the whole frame, too
-pub replaced_most : (p : Setup) (c : Rect) (new : List ℕ) (l m : Lent) (n : ℕ) → Replaces p c new l (outcome.Done n) m → n ≤ 6 * (p.size.w * p.size.h)
+pub replaced_most : (p : Setup) (c : Rect) (new : List ℕ) (l m : Lent) (n : ℕ) → Replaces p c new l (Ok n) m → n ≤ 6 * (p.size.w * p.size.h)
 replaced_most p c new l m n q =
     omega (arith, took_most (part p c) p.settings.s n (replaced q), part_area p c)
 

@@ -15,15 +15,15 @@ use Rattle.rules.specs.declared.Size.{Size}
 use Rattle.rules.specs.declared.Settings.{Settings}
 use Rattle.rules.specs.declared.Rgb.{Rgb}
 use Rattle.rules.specs.declared.Finding.{Finding}
-use Rattle.rules.specs.declared.Found.TheVariants as found
+use Rattle.std.specs.Prelude.{Ok}
 use Rattle.rules.specs.Window.{Plane, Shown}
 use Rattle.rules.specs.Buffers.{masked}
 use Rattle.rules.specs.Refusals.{bad_mask, bad_work, bad_seen}
-use Rattle.rules.specs.Promise.{found_said, finding, no_light, Lights}
+use Rattle.rules.specs.Promise.{finding, no_light, Lights}
 use Rattle.rules.proofs.Buffers.{at_masked}
 use Rattle.rules.proofs.Good.{SomeSeen, neither, settings_good, mask_good, seen_good}
 use Rattle.rules.proofs.Exactly.{light_exact}
-use Rattle.rules.proofs.Answers.{said_found}
+use Rattle.rules.proofs.Answers.{or_is}
 use Rattle.rules.specs.Light.{at, places, candidates, best, brightest, light}
 use Rattle.rules.proofs.Order.{In, here, later, Rising, rising_less}
 use Rattle.rules.proofs.Candidates.{m_le, places_some, candidates_many, candidates_rising, candidates_seen}
@@ -169,15 +169,15 @@ places_of z mask frame n s =
 -- of a call that keeps its promise and is not refused
 pub lights_chosen :
     (z : Size) (k : Settings) (mask frame : List ℕ) (work work' : List ℤ) (a : Finding)
-    → Lights z k mask frame work (found.Light a) work'
+    → Lights z k mask frame work (Ok a) work'
     → (p : ℕ) × Chosen (described z) k (masked (described z) mask frame) p a.light
 lights_chosen z k mask frame work work' a q =
     let n = no_light z k mask frame work in
     let f = masked (described z) mask frame in
-    let free : n ≡ 0 = sym (said_found n (finding z k mask frame)) ∙ ap found_said (sym q.answer) in
+    let is = or_is n (finding z k mask frame) a q.answer in
+    let free : n ≡ 0 = is.0 in
     let none = (light_exact z k (length mask) (bad_seen mask) (length frame) (length work)).free free in
     let shown = mask_good z (length mask) (neither (bad_mask z (length mask)) (bad_work z (length work)) none.1.1.1.0).0 in
     let some = places_of (described z) mask frame shown (seen_good mask none.1.1.1.1.0) in
-    let same : found.Light a ≡ found.Light (finding z k mask frame) = rw free at q.answer in
-    let e : a ≡ finding z k mask frame = cc in
+    let e : a ≡ finding z k mask frame = is.1 in
     rw e (light_chosen (described z) k f some (settings_good k none.1.0).share_most)

@@ -10,14 +10,16 @@ use native.Mathlib.Decide.{dec_le}
 use Rattle.rules.specs.Shape.{Shape}
 use Rattle.rules.specs.declared.Settings.{Settings}
 use Rattle.rules.specs.declared.Rgb.{Rgb}
-use Rattle.rules.specs.declared.Outcome.{Outcome}
+use Rattle.std.specs.Prelude.{Result}
+use Rattle.rules.specs.declared.Refusal.{Refusal}
 use Rattle.rules.specs.Window.{Plane, Shown}
 use Rattle.rules.specs.Transmission.{map_entry}
 use Rattle.rules.specs.Picture.{recover3, cleared}
 use Rattle.rules.specs.Setup.{Setup, shape}
 use Rattle.rules.specs.Buffers.{pixels, values, shown_by, clear}
-use Rattle.rules.specs.Promise.{Lent, outcome_said, no_clear, after_clear, Clears}
-use Rattle.rules.proofs.Answers.{outcome_free}
+use Rattle.rules.specs.Answers.{said}
+use Rattle.rules.specs.Promise.{Lent, no_clear, after_clear, Clears}
+use Rattle.rules.proofs.Answers.{or_free}
 use Rattle.rules.proofs.Buffers.{values_entries, pixels_bytes, masked_value}
 
 -- t is the larger of m and n
@@ -57,14 +59,14 @@ clear_at p frame y x t hy hx l =
 
 -- and that a call leaves which keeps its promise and is not refused
 pub clears_at :
-    (p : Setup) (l m : Lent) (r : Outcome) (y x t : ℕ)
+    (p : Setup) (l m : Lent) (r : Result ℕ Refusal) (y x t : ℕ)
     → Clears p l r m
-    → outcome_said r ≡ 0
+    → said r ≡ 0
     → y < p.size.h
     → x < p.size.w
     → Larger (values (shape p) m.map y x) p.settings.t0 t
     → pixels (shape p) m.picture y x ≡ recover3 p.light (pixels (shape p) l.frame y x) t
 clears_at p l m r y x t q e hy hx h =
-    let free : no_clear p l ≡ 0 = outcome_free _ _ _ q.answer e in
+    let free : no_clear p l ≡ 0 = or_free _ _ _ q.answer e in
     let left : m ≡ after_clear p l = rw free at q.after in
     rw left (clear_at p l.frame y x t hy hx (rw left at h))

@@ -27,11 +27,11 @@ use Rattle.rules.specs.Window.{from, least, total}
 use Rattle.rules.specs.Fold.{Σ}
 use Rattle.rules.specs.Picture.{quotient, figure_of, figure}
 use Rattle.rules.specs.Refusals.{refuse_band}
-use Rattle.rules.specs.Promise.{figure_or, band_said, Bands}
+use Rattle.rules.specs.Promise.{figure_or, Bands}
 use Rattle.rules.proofs.Local.{from_length}
 use Rattle.rules.proofs.Good.{size_good, map_good, band_good, entries_good}
 use Rattle.rules.proofs.Exactly.{band_exact}
-use Rattle.rules.proofs.Answers.{said_band}
+use Rattle.rules.proofs.Answers.{figure_free}
 
 -- a number to 2^53 loses nothing
 pub in_float_lem : (n : ℕ) → n ≤ 2 ^ 53 → T (in_float binary64 (pos n))
@@ -164,7 +164,7 @@ pub figured : (z : Size) (map : List ℕ) (start end : ℕ) (r : Band) (f : Figu
 figured z map start end r f h e =
     let F : Figure = figure (described z) map start end in
     let q : figure_or (refuse_band z map start end) F ≡ band.Figure f = sym h.answer ∙ e in
-    let free : refuse_band z map start end ≡ 0 = sym (said_band (refuse_band z map start end) F) ∙ ap band_said q in
+    let free : refuse_band z map start end ≡ 0 = figure_free (refuse_band z map start end) F f q in
     let same : band.Figure F ≡ band.Figure f = rw free at q in
     let is : F ≡ f = cc in
     rw is at (figured_of z map start end free)

@@ -11,13 +11,15 @@ use Rattle.rules.specs.Shape.{Shape}
 use Rattle.rules.specs.declared.Settings.{Settings}
 use Rattle.rules.specs.declared.Rgb.{Rgb}
 use Rattle.rules.specs.declared.Rect.{Rect}
-use Rattle.rules.specs.declared.Outcome.{Outcome}
+use Rattle.std.specs.Prelude.{Result}
+use Rattle.rules.specs.declared.Refusal.{Refusal}
 use Rattle.rules.specs.Window.{Plane, Shown, window}
 use Rattle.rules.specs.Transmission.{sample, fit, Sg, Sgg, Q}
 use Rattle.rules.specs.Picture.{recover3, cleared}
 use Rattle.rules.specs.Setup.{Setup, shape}
 use Rattle.rules.specs.Buffers.{pixels, seen_in, values, State, shown_by, clear}
-use Rattle.rules.specs.Promise.{Lent, state, outcome_said, no_replace, Replaces}
+use Rattle.rules.specs.Answers.{said}
+use Rattle.rules.specs.Promise.{Lent, state, no_replace, Replaces}
 use Rattle.rules.specs.Run.{Ran}
 use Rattle.rules.proofs.Buffers.{values_entries, pixels_bytes, masked_seen, masked_value}
 use Rattle.rules.proofs.Recover.{recover_whole}
@@ -26,7 +28,7 @@ use Rattle.rules.proofs.Spread.{Q_pos}
 use Rattle.rules.proofs.Near.{Near}
 use Rattle.rules.proofs.Good.{settings_good, rect_good}
 use Rattle.rules.proofs.Exactly.{replace_exact}
-use Rattle.rules.proofs.Answers.{outcome_free}
+use Rattle.rules.proofs.Answers.{or_free}
 use Rattle.rules.proofs.Run.{ran_fresh}
 use Rattle.rules.proofs.Pasted.{sides, replaces_anew}
 use Rattle.rules.proofs.WholeNumbers.{Bytes, ran_settings}
@@ -88,9 +90,9 @@ pub record Entered (z : Shape) (m : State) (y x : ℕ) (i : Rgb) : Type 0 where
   pub copied : Copied z m y x i
 
 pub replaces_hidden :
-    (p : Setup) (c : Rect) (new : List ℕ) (l m : Lent) (r : Outcome)
+    (p : Setup) (c : Rect) (new : List ℕ) (l m : Lent) (r : Result ℕ Refusal)
     → Replaces p c new l r m
-    → outcome_said r ≡ 0
+    → said r ≡ 0
     → Bytes new
     → (v u : ℕ)
     → v < c.h
@@ -98,7 +100,7 @@ pub replaces_hidden :
     → seen_in (shape p) p.mask (c.y + v) (c.x + u) ≡ false
     → Entered (shape p) (state m) (c.y + v) (c.x + u) (pixels (sides c) new v u)
 replaces_hidden p c new l m r q d b v u hv hu s =
-    let none : no_replace p c new l ≡ 0 = outcome_free _ _ _ q.answer d in
+    let none : no_replace p c new l ≡ 0 = or_free _ _ _ q.answer d in
     let free = (replace_exact p c new l).free none in
     let k = settings_good p.settings free.1.0 in
     let g = rect_good p.size c free.1.1.1.1.1.0 in

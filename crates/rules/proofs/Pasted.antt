@@ -10,17 +10,19 @@ use Prim.Native.Nat.{ℕ, ◌+◌, ◌-◌, ◌*◌, ◌≤◌, ◌<◌, min, ma
 use native.Mathlib.Omega.{arith}
 use Rattle.rules.specs.Shape.{Shape}
 use Rattle.rules.specs.declared.Rect.{Rect}
-use Rattle.rules.specs.declared.Outcome.{Outcome}
+use Rattle.std.specs.Prelude.{Result}
+use Rattle.rules.specs.declared.Refusal.{Refusal}
 use Rattle.rules.specs.Window.{Plane}
 use Rattle.rules.specs.Setup.{Setup, shape}
 use Rattle.rules.specs.Good.{GoodRect}
 use Rattle.rules.specs.Buffers.{pixels, seen_in, masked, values, State, clear, near, patch, placed, pasted, reach, replace}
-use Rattle.rules.specs.Promise.{Lent, state, outcome_said, no_replace, after_replace, Replaces}
+use Rattle.rules.specs.Answers.{said}
+use Rattle.rules.specs.Promise.{Lent, state, no_replace, after_replace, Replaces}
 use Rattle.rules.proofs.Near.{Near, near_yes, far_no, near_or_far}
 use Rattle.rules.proofs.Buffers.{values_entries, pixels_bytes}
 use Rattle.rules.proofs.Good.{rect_good}
 use Rattle.rules.proofs.Exactly.{replace_exact}
-use Rattle.rules.proofs.Answers.{outcome_free}
+use Rattle.rules.proofs.Answers.{or_free}
 use Rattle.rules.proofs.Run.{patch_no}
 
 -- (y, x) is a pixel of the rectangle
@@ -112,8 +114,8 @@ module _ (p : Setup) (c : Rect) (new : List ℕ) where
         picture = λ y x hy hx n. pixels_bytes z _ y x hy hx ∙ patch_yes (near (reach k) c) _ _ y x (close y x n) ∙ sym (pixels_bytes z _ y x hy hx);
       }
 
-  pub replaces_anew : (l m : Lent) (r : Outcome) → Replaces p c new l r m → outcome_said r ≡ 0 → Anew p c new (state m)
+  pub replaces_anew : (l m : Lent) (r : Result ℕ Refusal) → Replaces p c new l r m → said r ≡ 0 → Anew p c new (state m)
   replaces_anew l m r q e =
-      let free : no_replace p c new l ≡ 0 = outcome_free _ _ _ q.answer e in
+      let free : no_replace p c new l ≡ 0 = or_free _ _ _ q.answer e in
       let left : m ≡ after_replace p c new l = rw free at q.after in
       rw left (replace_anew (state l) (rect_good p.size c ((replace_exact p c new l).free free).1.1.1.1.1.0))

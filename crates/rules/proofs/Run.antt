@@ -10,7 +10,8 @@ use Rattle.rules.specs.Shape.{Shape}
 use Rattle.rules.specs.declared.Settings.{Settings}
 use Rattle.rules.specs.declared.Rgb.{Rgb}
 use Rattle.rules.specs.declared.Rect.{Rect}
-use Rattle.rules.specs.declared.Outcome.{Outcome}
+use Rattle.std.specs.Prelude.{Result}
+use Rattle.rules.specs.declared.Refusal.{Refusal}
 use Rattle.rules.specs.Window.{Plane, Shown}
 use Rattle.rules.specs.Setup.{Setup, shape}
 use Rattle.rules.specs.Buffers.{pixels, masked, values, State, shown_by, map_of, picture_of, clear, near, patch, placed, pasted, reach, replace}
@@ -19,7 +20,7 @@ use Rattle.rules.specs.Run.{Call, accepted, step, run, Fresh, Ran, cleared as af
 use Rattle.rules.proofs.Local.{Agree, Local, entry_local, cleared_local}
 use Rattle.rules.proofs.Near.{Far, far_no, far_sees}
 use Rattle.rules.proofs.Buffers.{values_entries, pixels_bytes, entries_cong, bytes_cong, masked_agree}
-use Rattle.rules.proofs.Answers.{outcome_free}
+use Rattle.rules.proofs.Answers.{or_free}
 
 pub patch_no : {A : Type 0} (t : ℕ → ℕ → Bool) (new old : Plane A) (y x : ℕ) → t y x ≡ false → patch t new old y x ≡ old y x
 unfolding patch
@@ -126,7 +127,7 @@ module _ (p : Setup) where
   pub ran_fresh : (m : Lent) → Ran p m → Fresh p (state m)
   unfolding clear
   ran_fresh _ (after_clear l m r q e) =
-      let none : no_clear p l ≡ 0 = outcome_free _ _ _ q.answer e in
+      let none : no_clear p l ≡ 0 = or_free _ _ _ q.answer e in
       let left : m ≡ lent (clear p l.frame) (wiped (shape p) l.work) = rw none at q.after in
       rw left refl
   ran_fresh _ (after_replace l m work c new r ran q) =
@@ -134,7 +135,7 @@ module _ (p : Setup) where
       either_way (λ (n : Lent). Fresh p (state n)) (no_replace p c new (lent (state l) work)) _ (lent (state l) work) m q.after
       (fresh_replace p (state l) c new old) old
 
-  pub replaces_alone : (c : Rect) (new : List ℕ) (l m : Lent) (r : Outcome) → Replaces p c new l r m → Alone (shape p) p.settings c (state l) (state m)
+  pub replaces_alone : (c : Rect) (new : List ℕ) (l m : Lent) (r : Result ℕ Refusal) → Replaces p c new l r m → Alone (shape p) p.settings c (state l) (state m)
   replaces_alone c new l m r q =
       either_way (λ (n : Lent). Alone (shape p) p.settings c (state l) (state n)) (no_replace p c new l) _ l m q.after
       (replace_alone p c new (state l)) (record { frame = λ y x hy hx e. refl; map = λ y x hy hx e. refl; picture = λ y x hy hx e. refl })

@@ -11,14 +11,16 @@ use Rattle.rules.specs.Shape.{Shape, described}
 use Rattle.rules.specs.declared.Size.{Size}
 use Rattle.rules.specs.declared.Settings.{Settings}
 use Rattle.rules.specs.declared.Rgb.{Rgb}
-use Rattle.rules.specs.declared.Outcome.{Outcome}
-use Rattle.rules.specs.declared.Found.{Found}
+use Rattle.std.specs.Prelude.{Result}
+use Rattle.rules.specs.declared.Refusal.{Refusal}
+use Rattle.rules.specs.declared.Finding.{Finding}
 use Rattle.rules.specs.Light.{places, light}
 use Rattle.rules.specs.Setup.{Setup, shape}
 use Rattle.rules.specs.Buffers.{pixels, seen_in, masked, State, clear}
 use Rattle.rules.specs.Refusals.{bad_mask, bad_work, bad_seen, refuse_light}
 use Rattle.rules.specs.Count.{clear_comparisons}
-use Rattle.rules.specs.Promise.{Lent, lent_of, state, lent, outcome_or, found_or, finding_of, finding, unless, wiped, no_light, no_clear, Lights, Clears}
+use Rattle.rules.specs.Answers.{or}
+use Rattle.rules.specs.Promise.{Lent, lent_of, state, lent, finding_of, finding, unless, wiped, no_light, no_clear, Lights, Clears}
 use Rattle.rules.specs.Run.{Ran}
 use Rattle.rules.proofs.Buffers.{pixels_bytes, entries_cong, masked_seen}
 use Rattle.rules.proofs.Good.{neither, settings_good, mask_good, seen_good}
@@ -66,12 +68,12 @@ unseen_clear p frame frame' h =
 -- ---- Light: the same call with the one frame and with the other
 
 -- two answers of Light that are refused alike, and carry the same light where they are not
-pub found_same : (n : ℕ) (a b : Rgb) (count : ℕ) → (n ≡ 0 → a ≡ b) → found_or n (finding_of a count) ≡ found_or n (finding_of b count)
+pub found_same : (n : ℕ) (a b : Rgb) (count : ℕ) → (n ≡ 0 → a ≡ b) → or n (finding_of a count) ≡ or n (finding_of b count)
 found_same zero a b count h = rw (h refl)
 found_same (suc n) a b count h = refl
 
 module _ (z : Size) (k : Settings) (mask frame frame' : List ℕ) (work : List ℤ) (long : length frame ≡ length frame') (h : SeenAlike (described z) mask frame frame') where
-  pub unseen_lights : (r r' : Found) (o o' : List ℤ) → Lights z k mask frame work r o → Lights z k mask frame' work r' o' → (r ≡ r') × (o ≡ o')
+  pub unseen_lights : (r r' : Result Finding Refusal) (o o' : List ℤ) → Lights z k mask frame work r o → Lights z k mask frame' work r' o' → (r ≡ r') × (o ≡ o')
   unseen_lights r r' o o' q q' =
       let n : no_light z k mask frame work ≡ no_light z k mask frame' work = ap (λ (i : ℕ). refuse_light z k (length mask) (bad_seen mask) i (length work)) long in
       let f = masked (described z) mask frame in
@@ -81,7 +83,7 @@ module _ (z : Size) (k : Settings) (mask frame frame' : List ℕ) (work : List �
       let shown = mask_good z (length mask) (neither (bad_mask z (length mask)) (bad_work z (length work)) free.1.1.1.0).0 in
       let some = places_of (described z) mask frame shown (seen_good mask free.1.1.1.1.0) in
       unseen_light (described z) mask frame frame' h k some (settings_good k free.1.0).share_most in (
-        q.answer ∙ found_same (no_light z k mask frame work) _ _ _ light_is ∙ ap (λ (i : ℕ). found_or i (finding z k mask frame')) n ∙ sym q'.answer,
+        q.answer ∙ found_same (no_light z k mask frame work) _ _ _ light_is ∙ ap (λ (i : ℕ). or i (finding z k mask frame')) n ∙ sym q'.answer,
         q.after ∙ ap (λ (i : ℕ). unless i (wiped (described z) work) work) n ∙ sym q'.after,
       )
 
@@ -100,11 +102,11 @@ module _ (p : Setup) (frame frame' map picture : List ℕ) (work : List ℤ) (lo
   abbrev other : Lent
   other = lent_of frame' map picture work
 
-  pub unseen_clears : (r r' : Outcome) (m m' : Lent) → Clears p one r m → Clears p other r' m' → (r ≡ r') × SameShown p (state m) (state m')
+  pub unseen_clears : (r r' : Result ℕ Refusal) (m m' : Lent) → Clears p one r m → Clears p other r' m' → (r ≡ r') × SameShown p (state m) (state m')
   unseen_clears r r' m m' q q' =
       let n : no_clear p one ≡ no_clear p other = rw long in
       let w = wiped (shape p) work in (
-        q.answer ∙ ap (λ (i : ℕ). outcome_or i (clear_comparisons p)) n ∙ sym q'.answer,
+        q.answer ∙ ap (λ (i : ℕ). or i (clear_comparisons p)) n ∙ sym q'.answer,
         rw (q.after, q'.after, n)
             (alike_unless p (no_clear p other) (clear p frame) (clear p frame') w w one other (unseen_clear p frame frame' h) (record { map = refl; picture = λ y x hy hx s. refl })),
       )

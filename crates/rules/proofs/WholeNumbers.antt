@@ -12,9 +12,8 @@ use lib.ListN.{length, get_or}
 use Rattle.rules.specs.Shape.{Shape, described}
 use Rattle.rules.specs.declared.Size.{Size}
 use Rattle.rules.specs.declared.Rgb.{Rgb}
-use Rattle.rules.specs.declared.Answer.{Answer}
-use Rattle.rules.specs.declared.Outcome.{Outcome}
-use Rattle.rules.specs.declared.Answer.TheVariants.{Done}
+use Rattle.std.specs.Prelude.{Result, Ok}
+use Rattle.rules.specs.declared.Refusal.{Refusal}
 use Rattle.rules.specs.Light.{guide}
 use Rattle.rules.specs.Transmission.{coarse, map_entry}
 use Rattle.rules.specs.Picture.{recover, recover3, cleared, haze, haze3}
@@ -22,14 +21,15 @@ use Rattle.rules.specs.Setup.{Setup, shape}
 use Rattle.rules.specs.Buffers.{pixels, seen_in, masked, channel, values, hazed, State, shown_by, clear}
 use Rattle.rules.specs.Good.{GoodSettings, GoodLight}
 use Rattle.rules.specs.Refusals.{refuse_haze}
-use Rattle.rules.specs.Promise.{Lent, state, lent, outcome_said, wiped, no_clear, Clears, Hazes}
+use Rattle.rules.specs.Answers.{said}
+use Rattle.rules.specs.Promise.{Lent, state, lent, wiped, no_clear, Clears, Hazes}
 use Rattle.rules.specs.Run.{Ran, cleared as after_clear, replaced as after_replace}
 use Rattle.rules.specs.Fraction.{whole, ◌/ᶠ◌, Off, Over, Beside}
 use Rattle.rules.specs.Exact.{coarseᶠ, mapᶠ, pictureᶠ, hazedᶠ, entry_under, entry_over, coarse_over, half}
 use Rattle.rules.proofs.Buffers.{masked_seen, masked_value, values_entries, pixels_bytes}
 use Rattle.rules.proofs.Good.{settings_good, light_good, entries_good}
 use Rattle.rules.proofs.Exactly.{clear_exact, haze_exact}
-use Rattle.rules.proofs.Answers.{done_free, outcome_free}
+use Rattle.rules.proofs.Answers.{or_is, or_free}
 use Rattle.rules.proofs.Run.{ran_fresh}
 use Rattle.rules.proofs.WholeEntry.{entry_off, entry_quarters}
 use Rattle.rules.proofs.WholeCoarse.{coarse_off}
@@ -95,14 +95,14 @@ module _ (p : Setup) (frame : List ℕ) (s : State) (h : Ready p frame s) (y x :
 
 -- ---- Clear
 
-clear_ready : (p : Setup) (l : Lent) (r : Outcome) (m : Lent) → Clears p l r m → outcome_said r ≡ 0 → Ready p l.frame (state m)
+clear_ready : (p : Setup) (l : Lent) (r : Result ℕ Refusal) (m : Lent) → Clears p l r m → said r ≡ 0 → Ready p l.frame (state m)
 clear_ready p l r m q d =
-    let none : no_clear p l ≡ 0 = outcome_free _ _ _ q.answer d in
+    let none : no_clear p l ≡ 0 = or_free _ _ _ q.answer d in
     let free = (clear_exact p l).free none in
     let left : m ≡ lent (clear p l.frame) (wiped (shape p) l.work) = rw none at q.after in
     record { fresh = ap state left; settings = settings_good p.settings free.1.0; light = light_good p.light free.1.1.1.1.0 }
 
-module _ (p : Setup) (l : Lent) (r : Outcome) (m : Lent) (q : Clears p l r m) (d : outcome_said r ≡ 0) (y x : ℕ) (hy : y < (shape p).h) (hx : x < (shape p).w) where
+module _ (p : Setup) (l : Lent) (r : Result ℕ Refusal) (m : Lent) (q : Clears p l r m) (d : said r ≡ 0) (y x : ℕ) (hy : y < (shape p).h) (hx : x < (shape p).w) where
   pub clear_entry : seen_in (shape p) p.mask y x ≡ true → Bytes l.frame → Off entry_under entry_over (values (shape p) m.map y x) (mapᶠ p l.frame y x)
   clear_entry = entry p l.frame (state m) (clear_ready p l r m q d) y x hy hx
 
@@ -150,9 +150,9 @@ layered a j t (suc zero) = refl
 layered a j t (suc (suc c)) = refl
 
 pub haze_byte :
-    (z : Size) (a : Rgb) (clean map out : List ℕ) (r : Answer) (out' : List ℕ)
+    (z : Size) (a : Rgb) (clean map out : List ℕ) (r : Result (Unit {0}) Refusal) (out' : List ℕ)
     → Hazes z a clean map out r out'
-    → r ≡ Done
+    → r ≡ Ok tt
     → (y x : ℕ)
     → y < z.h
     → x < z.w
@@ -160,7 +160,7 @@ pub haze_byte :
     → Beside half (channel c (pixels (described z) out' y x)) (hazedᶠ (described z) a clean map c y x)
 unfolding hazed values
 haze_byte z a clean map out r out' q d y x hy hx c =
-    let none : refuse_haze z a (length clean) map (length out) ≡ 0 = done_free _ (sym q.answer ∙ d) in
+    let none : refuse_haze z a (length clean) map (length out) ≡ 0 = (or_is _ tt tt (sym d ∙ q.answer)).0 in
     let free = (haze_exact z a (length clean) map (length out)).free none in
     let left : out' ≡ hazed (described z) a clean map = rw none at q.after in
     let is = ap (λ (o : List ℕ). channel c (pixels (described z) o y x)) left ∙ ap (channel c) (pixels_bytes (described z) _ y x hy hx) in

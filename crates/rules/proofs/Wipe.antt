@@ -12,14 +12,16 @@ use Rattle.rules.specs.Shape.{Shape, described, room}
 use Rattle.rules.specs.declared.Size.{Size}
 use Rattle.rules.specs.declared.Settings.{Settings}
 use Rattle.rules.specs.declared.Rect.{Rect}
-use Rattle.rules.specs.declared.Outcome.{Outcome}
-use Rattle.rules.specs.declared.Found.{Found}
+use Rattle.std.specs.Prelude.{Result}
+use Rattle.rules.specs.declared.Refusal.{Refusal}
+use Rattle.rules.specs.declared.Finding.{Finding}
 use Rattle.rules.specs.Setup.{Setup, shape}
 use Rattle.rules.specs.Refusals.{bad_mask, bad_frame, bad_map, bad_work, bad_seen}
-use Rattle.rules.specs.Promise.{wiped, Lent, outcome_said, found_said, no_light, no_clear, no_replace, after_clear, after_replace, Lights, Clears, Replaces}
+use Rattle.rules.specs.Answers.{said}
+use Rattle.rules.specs.Promise.{wiped, Lent, no_light, no_clear, no_replace, after_clear, after_replace, Lights, Clears, Replaces}
 use Rattle.rules.proofs.Good.{neither, work_good}
 use Rattle.rules.proofs.Exactly.{light_exact, clear_exact, replace_exact}
-use Rattle.rules.proofs.Answers.{said_found, outcome_free}
+use Rattle.rules.proofs.Answers.{or_free}
 
 -- work is the area before, work' afterwards; d stands for what is read past the end
 pub record Wiped (w h : ℕ) (work work' : List ℤ) : Type 0 where
@@ -67,13 +69,13 @@ roomy : (z : Size) (others : Bool) (n : ℕ) → (others || bad_work z n) ≡ fa
 roomy z others n e = omega (arith, work_good z n (neither others (bad_work z n) e).1)
 
 pub lights_wiped :
-    (z : Size) (k : Settings) (mask frame : List ℕ) (work work' : List ℤ) (r : Found)
+    (z : Size) (k : Settings) (mask frame : List ℕ) (work work' : List ℤ) (r : Result Finding Refusal)
     → Lights z k mask frame work r work'
-    → found_said r ≡ 0
+    → said r ≡ 0
     → Wiped z.w z.h work work'
 lights_wiped z k mask frame work work' r q e =
     let n = no_light z k mask frame work in
-    let free : n ≡ 0 = sym (said_found n _) ∙ ap found_said (sym q.answer) ∙ e in
+    let free : n ≡ 0 = or_free n _ r q.answer e in
     let left : work' ≡ wiped (described z) work = rw free at q.after in
     let four = ((light_exact z k (length mask) (bad_seen mask) (length frame) (length work)).free free).1.1.1.0 in
     rw left (wiped_is (described z) work (roomy z (bad_mask z (length mask)) (length work) four))
@@ -83,14 +85,14 @@ module _ (p : Setup) where
   abbrev others : Lent → Bool
   others l = bad_mask p.size (length p.mask) || bad_frame p.size (length l.picture) || bad_map p.size (length l.map)
 
-  pub clears_wiped : (l m : Lent) (r : Outcome) → Clears p l r m → outcome_said r ≡ 0 → Wiped p.size.w p.size.h l.work m.work
+  pub clears_wiped : (l m : Lent) (r : Result ℕ Refusal) → Clears p l r m → said r ≡ 0 → Wiped p.size.w p.size.h l.work m.work
   clears_wiped l m r q e =
-      let free : no_clear p l ≡ 0 = outcome_free _ _ _ q.answer e in
+      let free : no_clear p l ≡ 0 = or_free _ _ _ q.answer e in
       let left : m ≡ after_clear p l = rw free at q.after in
       rw left (wiped_is (shape p) l.work (roomy p.size (others l) (length l.work) ((clear_exact p l).free free).1.1.1.0))
 
-  pub replaces_wiped : (c : Rect) (new : List ℕ) (l m : Lent) (r : Outcome) → Replaces p c new l r m → outcome_said r ≡ 0 → Wiped p.size.w p.size.h l.work m.work
+  pub replaces_wiped : (c : Rect) (new : List ℕ) (l m : Lent) (r : Result ℕ Refusal) → Replaces p c new l r m → said r ≡ 0 → Wiped p.size.w p.size.h l.work m.work
   replaces_wiped c new l m r q e =
-      let free : no_replace p c new l ≡ 0 = outcome_free _ _ _ q.answer e in
+      let free : no_replace p c new l ≡ 0 = or_free _ _ _ q.answer e in
       let left : m ≡ after_replace p c new l = rw free at q.after in
       rw left (wiped_is (shape p) l.work (roomy p.size (others l) (length l.work) ((replace_exact p c new l).free free).1.1.1.0))

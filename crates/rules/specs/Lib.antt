@@ -11,6 +11,7 @@ pub mod Buffers
 pub mod Box
 pub mod Refusals
 pub mod Good
+pub mod Answers
 pub mod Promise
 pub mod Run
 pub mod Cases

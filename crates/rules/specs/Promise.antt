@@ -1,20 +1,16 @@
 -- What each operation promises, for every input: the answer, and what stands in each lent buffer afterwards. Assumes nothing.
-use Rattle.std.specs.Prelude.{◌≡◌, ℕ, zero, suc, cond, ◌||◌, List, ◌++◌, ltb, length, drop, replicate, ℤ, pos}
+use Rattle.std.specs.Prelude.{◌≡◌, ℕ, zero, suc, cond, ◌||◌, List, ◌++◌, Result, ltb, length, drop, replicate, ℤ, pos}
 use Rattle.rules.specs.Shape.{Shape, described, room}
 use Rattle.rules.specs.declared.Size.{Size}
 use Rattle.rules.specs.declared.Settings.{Settings}
 use Rattle.rules.specs.declared.Rgb.{Rgb}
 use Rattle.rules.specs.declared.Rect.{Rect}
-use Rattle.rules.specs.declared.Answer.{Answer}
-use Rattle.rules.specs.declared.Answer.TheVariants as answer
-use Rattle.rules.specs.declared.Outcome.{Outcome}
-use Rattle.rules.specs.declared.Outcome.TheVariants as outcome
 use Rattle.rules.specs.declared.Finding.{Finding}
-use Rattle.rules.specs.declared.Found.{Found}
-use Rattle.rules.specs.declared.Found.TheVariants as found
 use Rattle.rules.specs.declared.Figure.{Figure}
+use Rattle.rules.specs.declared.Refusal.{Refusal}
 use Rattle.rules.specs.declared.Band.{Band}
 use Rattle.rules.specs.declared.Band.TheVariants as band
+use Rattle.rules.specs.Answers.{number, numbered, or}
 use Rattle.rules.specs.Light.{light}
 use Rattle.rules.specs.Picture.{figure}
 use Rattle.rules.specs.Setup.{Setup, shape}
@@ -22,41 +18,16 @@ use Rattle.rules.specs.Count.{frame_comparisons, clear_comparisons, replace_comp
 use Rattle.rules.specs.Buffers.{masked, hazed, State, clear, replace}
 use Rattle.rules.specs.Refusals.{bad_size, bad_seen, refuse_light, refuse_clear, refuse_replace, refuse_haze, refuse_band}
 
--- ---- the answers: the case for each number of the paper, 0 for an accepted call, with the values that it carries
-
--- of any kind of answer: for 0 the case that carries the value, for another number the case that carries it
-abbrev pub or : {A B : Type 0} → (B → A) → (ℕ → A) → ℕ → B → A
-or ok bad zero v = ok v
-or ok bad (suc n) v = bad (suc n)
-
-abbrev pub answered : ℕ → Answer
-answered n = or (λ (v : Unit {0}). answer.Done) answer.Refused n tt
-
-abbrev pub outcome_or : ℕ → ℕ → Outcome
-outcome_or = or outcome.Done outcome.Refused
-
-abbrev pub found_or : ℕ → Finding → Found
-found_or = or found.Light found.Refused
+-- ---- the answer of Band figure, whose cases have names of their own: the figure for 0, for another number the refusal that has it
 
 abbrev pub figure_or : ℕ → Figure → Band
-figure_or = or band.Figure band.Refused
+figure_or zero f = band.Figure f
+figure_or (suc n) f = band.Refused (numbered (suc n))
 
 -- and the number that each case says
-abbrev pub said : Answer → ℕ
-said answer.Done = 0
-said (answer.Refused n) = n
-
-abbrev pub outcome_said : Outcome → ℕ
-outcome_said (outcome.Done c) = 0
-outcome_said (outcome.Refused n) = n
-
-abbrev pub found_said : Found → ℕ
-found_said (found.Light a) = 0
-found_said (found.Refused n) = n
-
 abbrev pub band_said : Band → ℕ
 band_said (band.Figure f) = 0
-band_said (band.Refused n) = n
+band_said (band.Refused e) = number e
 
 -- ---- the buffers
 
@@ -124,23 +95,23 @@ after_replace p c new l = lent (replace p c new (state l)) (wiped (shape p) l.wo
 -- ---- the promises
 
 -- Light: work is the work area before, work' afterwards
-pub record Lights (z : Size) (k : Settings) (mask frame : List ℕ) (work : List ℤ) (r : Found) (work' : List ℤ) : Type 0 where
-  pub answer : r ≡ found_or (no_light z k mask frame work) (finding z k mask frame)
+pub record Lights (z : Size) (k : Settings) (mask frame : List ℕ) (work : List ℤ) (r : Result Finding Refusal) (work' : List ℤ) : Type 0 where
+  pub answer : r ≡ or (no_light z k mask frame work) (finding z k mask frame)
   pub after : work' ≡ unless (no_light z k mask frame work) (wiped (described z) work) work
 
 -- Clear: l is what stood in the buffers, m what stands there afterwards
-pub record Clears (p : Setup) (l : Lent) (r : Outcome) (m : Lent) : Type 0 where
-  pub answer : r ≡ outcome_or (no_clear p l) (clear_comparisons p)
+pub record Clears (p : Setup) (l : Lent) (r : Result ℕ Refusal) (m : Lent) : Type 0 where
+  pub answer : r ≡ or (no_clear p l) (clear_comparisons p)
   pub after : m ≡ unless (no_clear p l) (after_clear p l) l
 
 -- Replace: c is the rectangle, new its pixels
-pub record Replaces (p : Setup) (c : Rect) (new : List ℕ) (l : Lent) (r : Outcome) (m : Lent) : Type 0 where
-  pub answer : r ≡ outcome_or (no_replace p c new l) (replace_comparisons p c)
+pub record Replaces (p : Setup) (c : Rect) (new : List ℕ) (l : Lent) (r : Result ℕ Refusal) (m : Lent) : Type 0 where
+  pub answer : r ≡ or (no_replace p c new l) (replace_comparisons p c)
   pub after : m ≡ unless (no_replace p c new l) (after_replace p c new l) l
 
 -- Haze: out is the lent frame before, out' afterwards
-pub record Hazes (z : Size) (a : Rgb) (clean map out : List ℕ) (r : Answer) (out' : List ℕ) : Type 0 where
-  pub answer : r ≡ answered (refuse_haze z a (length clean) map (length out))
+pub record Hazes (z : Size) (a : Rgb) (clean map out : List ℕ) (r : Result (Unit {0}) Refusal) (out' : List ℕ) : Type 0 where
+  pub answer : r ≡ or (refuse_haze z a (length clean) map (length out)) tt
   pub after : out' ≡ unless (refuse_haze z a (length clean) map (length out)) (hazed (described z) a clean map) out
 
 -- Band figure: nothing is written

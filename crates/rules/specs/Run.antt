@@ -1,11 +1,12 @@
 -- A run of Replace calls on one frame, map and cleared frame, under one setup. Assumes nothing.
-use Rattle.std.specs.Prelude.{◌≡◌, ℕ, List, [], ◌∷◌, Bool, cond, length, eqb, ℤ}
+use Rattle.std.specs.Prelude.{◌≡◌, ℕ, List, [], ◌∷◌, Bool, cond, length, eqb, ℤ, Result}
 use Rattle.rules.specs.declared.Rect.{Rect}
-use Rattle.rules.specs.declared.Outcome.{Outcome}
+use Rattle.rules.specs.declared.Refusal.{Refusal}
 use Rattle.rules.specs.Setup.{Setup}
 use Rattle.rules.specs.Buffers.{State, clear, replace}
 use Rattle.rules.specs.Refusals.{refuse_replace}
-use Rattle.rules.specs.Promise.{Lent, state, lent, outcome_said, Clears, Replaces}
+use Rattle.rules.specs.Answers.{said}
+use Rattle.rules.specs.Promise.{Lent, state, lent, Clears, Replaces}
 
 -- a call: the rectangle, the new pixels, and the length of the work area that it is lent
 pub record Call : Type 0 where
@@ -44,5 +45,5 @@ Fresh p s = s ≡ clear p s.frame
 -- The same said of the calls themselves: the buffers that an accepted Clear and then any Replace calls, accepted and refused, can leave, when each
 -- keeps its promise. Between two calls the caller may lend another work area.
 pub data Ran (p : Setup) : Lent → Type 0 where
-  cleared : (l m : Lent) (r : Outcome) → Clears p l r m → outcome_said r ≡ 0 → Ran p m
-  replaced : (l m : Lent) (work : List ℤ) (c : Rect) (new : List ℕ) (r : Outcome) → Ran p l → Replaces p c new (lent (state l) work) r m → Ran p m
+  cleared : (l m : Lent) (r : Result ℕ Refusal) → Clears p l r m → said r ≡ 0 → Ran p m
+  replaced : (l m : Lent) (work : List ℤ) (c : Rect) (new : List ℕ) (r : Result ℕ Refusal) → Ran p l → Replaces p c new (lent (state l) work) r m → Ran p m
