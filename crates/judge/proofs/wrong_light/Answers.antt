@@ -1,13 +1,12 @@
 -- `judge::wrong_light` meets its contract. Assumes nothing.
+use Rattle.std.proofs.Common.{rules}
 use Rattle.rules.specs.Refusals.{bad_light}
 use Rattle.judge.proofs.wrong_light.Goals as goal
 
-pub either-requires : goal.either-requires
-either-requires c = tt
-
-pub either-requires-2 : goal.either-requires-2
-either-requires-2 c = tt
-
-pub returns : goal.returns
+pub returns-then-a-eq0-2 : goal.returns-then-a-eq0-2
 unfolding bad_light
-returns c = cc
+returns-then-a-eq0-2 c = search rules
+
+pub returns-else-a-eq0-2 : goal.returns-else-a-eq0-2
+unfolding bad_light
+returns-else-a-eq0-2 c = search rules
