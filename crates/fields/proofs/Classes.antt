@@ -8,7 +8,7 @@ use native.Mathlib.Omega.{arith}
 use borrow.Author.Tests.{ne_eqb, le-leb, lt-leb}
 use Rattle.fields.specs.declared.Class.{Class}
 use Rattle.fields.specs.declared.Class.TheVariants.{Digit, Lower, Tab, LineEnd, Other}
-use Rattle.fields.specs.declared.Line.TheVariants.{Broken}
+use Rattle.std.specs.Prelude.{None}
 use Rattle.fields.proofs.Steps.{step}
 use Rattle.fields.specs.Bytes.{class_of, counted, on_class, scan}
 
@@ -46,5 +46,5 @@ module _ (s : List ℕ) (n i : ℕ) (h : i < length s) where
   pub turn_at : (k r : Class) → r ≡ class_of (get_or s i 0) → r ≡ k → scan (drop i s) i n ≡ on_class k i n (scan (drop (i + 1) s) (i + 1) (counted k n))
   turn_at k r e q = turn ∙ ap (λ (x : Class). on_class x i n (scan (drop (i + 1) s) (i + 1) (counted x n))) (sym e ∙ q)
 
-pub turn_none : (s : List ℕ) (n i : ℕ) → length s ≤ i → scan (drop i s) i n ≡ Broken
+pub turn_none : (s : List ℕ) (n i : ℕ) → length s ≤ i → scan (drop i s) i n ≡ None
 turn_none s n i h = ap (λ (l : List ℕ). scan l i n) (drop_of_length-le s h)

@@ -12,7 +12,7 @@ use borrow.Author.Tests.{eqb-true}
 use Rattle.fields.specs.declared.Class.{Class}
 use Rattle.fields.specs.declared.Class.TheVariants.{Digit, Lower, Tab, LineEnd, Other}
 use Rattle.fields.specs.declared.Line.{Line}
-use Rattle.fields.specs.declared.Line.TheVariants.{Ends, Broken}
+use Rattle.std.specs.Prelude.{Option, Some, None}
 use Rattle.fields.specs.Bytes.{class_of, counted, on_class, scan, line_of, usual, plain}
 use Rattle.fields.specs.Every.{every}
 use Rattle.fields.specs.Fields.{cons_head, joined, split}
@@ -112,18 +112,19 @@ module _ (b : ℕ) (bs : List ℕ) (i f e n : ℕ) where
   more : eqb b 9 ≡ true → (d : ℕ) → length (split 9 (b ∷ take d bs)) ≡ suc (length (split 9 (take d bs)))
   more h d = rw h
 
-  onward : (k : Class) (rest : Line) → eqb b 10 ≡ is_end k → eqb b 9 ≡ is_tab k → on_class k i f rest ≡ Ends e n
-      → (rest ≡ Ends e n → At bs (suc i) (counted k f) e n) → At (b ∷ bs) i f e n
+  onward : (k : Class) (rest : Option Line) → eqb b 10 ≡ is_end k → eqb b 9 ≡ is_tab k → on_class k i f rest ≡ Some (record { end = e; fields = n })
+      → (rest ≡ Some (record { end = e; fields = n }) → At bs (suc i) (counted k f) e n) → At (b ∷ bs) i f e n
   onward Digit rest he ht q p = before he f (p q) (ap (λ (m : ℕ). f + m) (kept ht (p q).d))
   onward Lower rest he ht q p = before he f (p q) (ap (λ (m : ℕ). f + m) (kept ht (p q).d))
   onward Tab rest he ht q p = let m = more ht (p q).d in before he (suc f) (p q) (omega arith)
   onward LineEnd rest he ht q p =
-      let u : e ≡ i = cc in
-      let v : n ≡ f = cc in
+      let same : ◌≡◌ {A = Line} (record { end = i; fields = f }) (record { end = e; fields = n }) = cc in
+      let u : i ≡ e = ap (λ (l : Line). l.end) same in
+      let v : f ≡ n = ap (λ (l : Line). l.fields) same in
       record { d = 0; place = omega arith; inside = omega arith; line = rw he; count = omega arith }
   onward Other rest he ht q p = absurd (let z : ◌≡◌ {A = ℕ} 0 1 = cc in let y : ⊥ = omega arith in y)
 
-ends_at : (l : List ℕ) (i f e n : ℕ) → scan l i f ≡ Ends e n → At l i f e n
+ends_at : (l : List ℕ) (i f e n : ℕ) → scan l i f ≡ Some (record { end = e; fields = n }) → At l i f e n
 ends_at [] i f e n q = absurd (let z : ◌≡◌ {A = ℕ} 0 1 = cc in let y : ⊥ = omega arith in y)
 ends_at (b ∷ bs) i f e n q =
     onward b bs i f e n (class_of b) (scan bs (suc i) (counted (class_of b) f)) (end_class b) (tab_class b) q
@@ -136,7 +137,7 @@ pub record Ended (s : List ℕ) (at e n : ℕ) : Type 0 where
   pub line : split 10 (drop at s) ≡ take (e - at) (drop at s) ∷ split 10 (drop (e + 1) s)
   pub count : n ≡ length (split 9 (take (e - at) (drop at s)))
 
-pub ended : (s : List ℕ) (at e n : ℕ) → at ≤ length s → line_of s at ≡ Ends e n → Ended s at e n
+pub ended : (s : List ℕ) (at e n : ℕ) → at ≤ length s → line_of s at ≡ Some (record { end = e; fields = n }) → Ended s at e n
 unfolding line_of
 ended s at e n h q =
     let p = ends_at (drop at s) at 1 e n q in
@@ -164,21 +165,21 @@ sound_cons b (p ∷ []) = sym (and-false (usual (class_of b)))
 sound_cons b (p ∷ q ∷ ps) = refl
 
 module _ (b : ℕ) (ps : List (List ℕ)) where
-  unsound : (k : Class) (i f : ℕ) (rest : Line) → class_of b ≡ k → eqb b 10 ≡ is_end k → on_class k i f rest ≡ Broken
-      → (rest ≡ Broken → sound ps ≡ false) → sound (joined (eqb b 10) b ps) ≡ false
+  unsound : (k : Class) (i f : ℕ) (rest : Option Line) → class_of b ≡ k → eqb b 10 ≡ is_end k → on_class k i f rest ≡ None
+      → (rest ≡ None → sound ps ≡ false) → sound (joined (eqb b 10) b ps) ≡ false
   unsound Digit i f rest c he q p = rw he (sound_cons b ps ∙ rw c (p q))
   unsound Lower i f rest c he q p = rw he (sound_cons b ps ∙ rw c (p q))
   unsound Tab i f rest c he q p = rw he (sound_cons b ps ∙ rw c (p q))
   unsound LineEnd i f rest c he q p = absurd (let z : ◌≡◌ {A = ℕ} 0 1 = cc in let y : ⊥ = omega arith in y)
   unsound Other i f rest c he q p = rw he (sound_cons b ps ∙ rw c)
 
-broken_at : (l : List ℕ) (i f : ℕ) → scan l i f ≡ Broken → sound (split 10 l) ≡ false
+broken_at : (l : List ℕ) (i f : ℕ) → scan l i f ≡ None → sound (split 10 l) ≡ false
 broken_at [] i f q = refl
 broken_at (b ∷ bs) i f q =
     unsound b (split 10 bs) (class_of b) i f (scan bs (suc i) (counted (class_of b) f)) refl (end_class b) q
     (broken_at bs (suc i) (counted (class_of b) f))
 
-pub broken : (s : List ℕ) (at : ℕ) → line_of s at ≡ Broken → sound (split 10 (drop at s)) ≡ false
+pub broken : (s : List ℕ) (at : ℕ) → line_of s at ≡ None → sound (split 10 (drop at s)) ≡ false
 unfolding line_of
 broken s at q = broken_at (drop at s) at 1 q
 

@@ -8,7 +8,7 @@ use native.Mathlib.Numerals.{add-one}
 use native.Mathlib.Omega.{arith}
 use lib.ListN.{length, get_or, drop, drop_of_length-le}
 use borrow.Author.Tests.{eq-eqb, ne_eqb, lt-ltb, le-ltb, le-leb, lt-leb}
-use Rattle.fields.specs.declared.Number.TheVariants.{Is, Bad}
+use Rattle.std.specs.Prelude.{Some, None}
 use Rattle.fields.proofs.Steps.{step}
 use Rattle.fields.proofs.Every.{every_on, every_off, up_to_empty, up_to_long, up_to_is}
 use Rattle.fields.specs.Decimal.{digit, digits, value_from, figured, digits_of, led, numeral, number_of}
@@ -39,26 +39,26 @@ ten_most i h = pow-le-pow_right {n = 10} (omega arith) h
 -- ---- which answer
 
 module _ (s : List ℕ) where
-  pub bad_empty : length s ≡ 0 → Bad ≡ digits_of s
+  pub bad_empty : length s ≡ 0 → None ≡ digits_of s
   unfolding digits_of figured
   bad_empty e = rw (up_to_empty 6 digit s e)
 
-  pub bad_long : 6 < length s → Bad ≡ digits_of s
+  pub bad_long : 6 < length s → None ≡ digits_of s
   unfolding digits_of figured
   bad_long l = rw (up_to_long 6 digit s l)
 
   module _ (some : 0 < length s) (short : length s ≤ 6) where
-    pub bad_digits : digits s ≡ false → Bad ≡ digits_of s
+    pub bad_digits : digits s ≡ false → None ≡ digits_of s
     unfolding digits_of figured
     bad_digits e = rw (up_to_is 6 digit s some short, e)
 
-    pub good : digits s ≡ true → Is (value_from 0 s) ≡ digits_of s
+    pub good : digits s ≡ true → Some (value_from 0 s) ≡ digits_of s
     unfolding digits_of figured
     good e = rw (up_to_is 6 digit s some short, e)
 
   -- ---- no leading zero
 
-  pub bad_led : 1 < length s → get_or s 0 0 ≡ 48 → Bad ≡ number_of s
+  pub bad_led : 1 < length s → get_or s 0 0 ≡ 48 → None ≡ number_of s
   unfolding number_of numeral
   bad_led l e = rw (lt-ltb 1 (length s) l, eq-eqb (get_or s 0 0) 48 e)
 

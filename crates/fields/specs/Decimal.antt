@@ -1,8 +1,6 @@
 -- Numbers in decimal: read, 1 to 6 digits, with leading zeros or without, and written. Assumes nothing.
-use Rattle.std.specs.Prelude.{Bool, cond, not, ◌&&◌, List, [], ◌∷◌, ◌++◌, ℕ, zero, suc, ◌+◌, ◌-◌, ◌*◌, ◌/◌, ◌%◌, leb, ltb, eqb, length, get_or}
+use Rattle.std.specs.Prelude.{Bool, cond, not, ◌&&◌, List, [], ◌∷◌, ◌++◌, ℕ, zero, suc, ◌+◌, ◌-◌, ◌*◌, ◌/◌, ◌%◌, leb, ltb, eqb, length, get_or, Option, Some, None, unwrap_or}
 use Rattle.fields.specs.Every.{every, up_to}
-use Rattle.fields.specs.declared.Number.{Number}
-use Rattle.fields.specs.declared.Number.TheVariants.{Is, Bad}
 
 -- ---- read
 
@@ -28,17 +26,16 @@ value_from v [] = v
 value_from v (b ∷ bs) = value_from (10 * v + (b - 48)) bs
 
 -- zeros may lead
-unfoldable pub digits_of : List ℕ → Number
-digits_of s = cond (figured s) (Is (value_from 0 s)) Bad
+unfoldable pub digits_of : List ℕ → Option ℕ
+digits_of s = cond (figured s) (Some (value_from 0 s)) None
 
 -- no leading zero but 0 itself
-unfoldable pub number_of : List ℕ → Number
-number_of s = cond (numeral s) (Is (value_from 0 s)) Bad
+unfoldable pub number_of : List ℕ → Option ℕ
+number_of s = cond (numeral s) (Some (value_from 0 s)) None
 
 -- the number, 0 where there is none
-abbrev pub value_in : Number → ℕ
-value_in (Is v) = v
-value_in Bad = 0
+abbrev pub value_in : Option ℕ → ℕ
+value_in n = unwrap_or n 0
 
 -- ---- written
 

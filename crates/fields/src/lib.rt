@@ -30,37 +30,28 @@ pub fn class_of(b: u8) -> Class
     }
 }
 
-// A line: where it ends and how many fields it has, or that it breaks the layout.
+// A line: where it ends and how many fields it has.
 #[derive(Clone, Copy)]
-pub enum Line {
-    Ends(usize, usize),
-    Broken,
+pub struct Line {
+    pub end: usize,
+    pub fields: usize,
 }
 
-// Each byte's class decides the next step: go on, count a field, end the line, or break off.
-pub fn line_at(s: &[u8], at: usize) -> Line
+// The line that begins at a place, if it keeps the layout. Each byte's class decides the next step: go on, count a field, end the line, or break off.
+pub fn line_at(s: &[u8], at: usize) -> Option<Line>
     requires { at ≤ length s.now }
     ensures { result ≡ line_of s.now at }
 {
     let mut fields = 1;
-    let mut i = at;
-    while i < s.len() {
+    for i in at..s.len() {
         match class_of(s[i]) {
-            Class::Digit => {}
-            Class::Lower => {}
-            Class::Tab => {
-                fields += 1;
-            }
-            Class::LineEnd => {
-                return Line::Ends(i, fields);
-            }
-            Class::Other => {
-                return Line::Broken;
-            }
+            Class::Digit | Class::Lower => {}
+            Class::Tab => fields += 1,
+            Class::LineEnd => return Some(Line { end: i, fields }),
+            Class::Other => return None,
         }
-        i += 1;
     }
-    Line::Broken
+    None
 }
 
 // The place of the first byte sep at or after at, or the length.
@@ -68,14 +59,12 @@ pub fn end_of(s: &[u8], at: usize, sep: u8) -> usize
     requires { at ≤ length s.now }
     ensures { Ends s.now at sep result }
 {
-    let mut i = at;
-    while i < s.len() {
+    for i in at..s.len() {
         if s[i] == sep {
             return i;
         }
-        i += 1;
     }
-    i
+    s.len()
 }
 
 // The place after `end`, or the length.
@@ -91,14 +80,12 @@ pub fn part<'a>(s: &'a [u8], sep: u8, n: usize) -> &'a [u8]
     ensures { FieldOf sep s.entry n result }
 {
     let mut at = 0;
-    let mut k = 0;
-    while k < n {
+    for _ in 0..n {
         let e = end_of(s, at, sep);
         if e == s.len() {
             return &s[0..0];
         }
         at = e + 1;
-        k += 1;
     }
     let e = end_of(s, at, sep);
     &s[at..e]
@@ -115,60 +102,32 @@ pub fn field<'a>(line: &'a [u8], n: usize) -> &'a [u8]
 pub fn same(a: &[u8], b: &[u8]) -> bool
     ensures { result ≡ same_list a.now b.now }
 {
-    if a.len() != b.len() {
-        return false;
-    }
-    let mut i = 0;
-    while i < a.len() {
-        if a[i] != b[i] {
-            return false;
-        }
-        i += 1;
-    }
-    true
+    a == b
 }
 
-// What a field's text says as a number.
-#[derive(Clone, Copy)]
-pub enum Number {
-    Is(usize),
-    Bad,
-}
-
-// Decimal, 1 to 6 digits, no sign; zeros may lead.
-pub fn read_digits(s: &[u8]) -> Number
+// The number that a text says: decimal, 1 to 6 digits, no sign; zeros may lead.
+pub fn read_digits(s: &[u8]) -> Option<usize>
     ensures { result ≡ digits_of s.now }
 {
-    if s.len() == 0 {
-        return Number::Bad;
-    }
-    if s.len() > 6 {
-        return Number::Bad;
+    if s.is_empty() || s.len() > 6 {
+        return None;
     }
     let mut v = 0;
-    let mut i = 0;
-    while i < s.len() {
-        match s[i] {
-            b'0'..=b'9' => {
-                v = 10 * v + (s[i] as usize - 48);
-            }
-            _ => {
-                return Number::Bad;
-            }
+    for b in s {
+        match b {
+            b'0'..=b'9' => v = 10 * v + (*b - b'0') as usize,
+            _ => return None,
         }
-        i += 1;
     }
-    Number::Is(v)
+    Some(v)
 }
 
 // Such a number with no leading zero but 0 itself.
-pub fn read_number(s: &[u8]) -> Number
+pub fn read_number(s: &[u8]) -> Option<usize>
     ensures { result ≡ number_of s.now }
 {
-    if s.len() > 1 {
-        if s[0] == b'0' {
-            return Number::Bad;
-        }
+    if s.len() > 1 && s[0] == b'0' {
+        return None;
     }
     read_digits(s)
 }
@@ -179,11 +138,11 @@ pub fn put_number(out: &mut [u8], at: usize, n: u64) -> usize
     ensures { Wrote (decimal n) out.old at out.new result }
 {
     if n < 10 {
-        out[at] = 48 + n as u8;
+        out[at] = b'0' + n as u8;
         return at + 1;
     }
     let last = put_number(out, at, n / 10);
-    out[last] = 48 + (n % 10) as u8;
+    out[last] = b'0' + (n % 10) as u8;
     last + 1
 }
 
@@ -192,12 +151,9 @@ pub fn put_word(out: &mut [u8], at: usize, word: &[u8]) -> usize
     requires { at + length word.now ≤ length out.old }
     ensures { Wrote word.now out.old at out.new result }
 {
-    let mut i = 0;
-    while i < word.len() {
-        out[at + i] = word[i];
-        i += 1;
-    }
-    at + i
+    let end = at + word.len();
+    out[at..end].copy_from_slice(word);
+    end
 }
 
 // Writes a tab and a number.
@@ -215,10 +171,8 @@ fn put_columns(out: &mut [u8], at: usize, numbers: &[u64]) -> usize
     ensures { Wrote (columns numbers.now) out.old at out.new result }
 {
     let mut next = at;
-    let mut i = 0;
-    while i < numbers.len() {
-        next = put_column(out, next, numbers[i]);
-        i += 1;
+    for n in numbers {
+        next = put_column(out, next, *n);
     }
     out[next] = b'\n';
     next + 1

@@ -5,8 +5,8 @@ use lib.ListN.{length, drop}
 use Rattle.fields.specs.Fields.{split, field_of, begins, field_at}
 use Rattle.fields.proofs.part.Given as goal
 
-abbrev pub invariant-loop-k : goal.invariant-loop-k
-invariant-loop-k l = (l.k ≤ l.n) × (l.at ≤ length l.s) × (field_of l.sep l.s l.n ≡ field_of l.sep (drop l.at l.s) (l.n - l.k)) × (field_at l.sep l.s l.n ≡ begins l.at (split l.sep (drop l.at l.s)) (l.n - l.k))
-
-abbrev pub decreases-loop-k : goal.decreases-loop-k
-decreases-loop-k l = l.n - l.k
+abbrev pub invariant-loop : goal.invariant-loop
+invariant-loop l =
+    (l.at ≤ length l.s)
+    × (field_of l.sep l.s l.n ≡ field_of l.sep (drop l.at l.s) (l.n - l.counter))
+    × (field_at l.sep l.s l.n ≡ begins l.at (split l.sep (drop l.at l.s)) (l.n - l.counter))

@@ -1,25 +1,6 @@
--- `fields::put_word` meets its contract. The invariant: writing what is left of the word from the present place on gives what writing the whole word
--- gives. Assumes nothing.
-use mathlib.Core.Path.{◌≡◌, refl, sym, ◌∙◌}
-use Prim.Native.Nat.{◌+◌}
-use native.Mathlib.Nat.{add-zero}
-use native.Mathlib.Omega.{arith}
-use lib.ListN.{length, get_or, set, length-set}
-use Rattle.fields.proofs.Written.{word_more, word_done}
+-- `fields::put_word` meets its contract: the word stands over the part from the place on. Assumes nothing.
+use Rattle.fields.proofs.Written.{written_over}
 use Rattle.fields.proofs.put_word.Goals as goal
 
-pub loop-i-init : goal.loop-i-init
-loop-i-init c = (omega arith, refl, rw add-zero)
-
-pub loop-i-preserved : goal.loop-i-preserved
-loop-i-preserved c =
-    let l = c.loop-i in
-    let a = c.args in
-    let n : length (set l.out (a.at + l.i) (get_or a.word.now l.i 0)) ≡ length a.out.now = simp length-set l.invariant.1 in
-    (omega arith, n, l.invariant.2 ∙ word_more a.word.now l.out a.at l.i c.loop-i-test.true)
-
 pub returns : goal.returns
-returns c =
-    let l = c.loop-i in
-    let a = c.args in
-    record { ends = omega arith; within = omega (arith, c.requires); is = sym (l.invariant.2 ∙ word_done a.word.now l.out a.at l.i c.loop-i-test.false) }
+returns c = written_over c.args.word.now c.args.out.now c.copy_from_slice.new.self c.args.at c.requires c.copy_from_slice.ensures.after
