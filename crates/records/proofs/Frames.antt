@@ -9,6 +9,7 @@ use lib.Dec.{ltb}
 use lib.ListN.{length, get_or, set, take, drop, replicate}
 use lib.Seq.{sets, length-sets}
 use borrow.Author.Tests.{ltb-false}
+use Rattle.std.specs.Prelude.{Result, Ok, Err}
 use Rattle.rules.specs.declared.Size.{Size}
 use Rattle.rules.specs.declared.Settings.{Settings}
 use Rattle.rules.specs.Refusals.{bad_size, bad_settings}
@@ -21,10 +22,11 @@ use Rattle.fields.proofs.Written.{take_sets}
 use Rattle.records.specs.declared.Kind.{Kind}
 use Rattle.records.specs.declared.Kind.TheVariants.{Size as kind_size, Set as kind_set, Px as kind_px}
 use Rattle.records.specs.declared.Reader.{Reader}
+use Rattle.records.specs.declared.Fault.{Fault}
 use Rattle.records.specs.declared.Frame.{Frame}
 use Rattle.records.specs.Records.{number_at, size_of, settings_of, colour_of, large, bright, fault}
-use Rattle.records.specs.Judging.{Verdict, onward, cells, kinds, channels, painted}
-use Rattle.records.specs.Reader.{outcome, Stands, passed, Accepted, Passed, Painted, line_from, Framed}
+use Rattle.records.specs.Judging.{cells, kinds, channels, painted}
+use Rattle.records.specs.Reader.{outcome, Stands, passed, Passed, Painted, line_from, Framed}
 
 -- ---- what is known of a line with no fault
 
@@ -79,50 +81,38 @@ three l i a b c =
 
 pub record Reading (input : List ℕ) (n : ℕ) (s : Reader) (size : ℕ) (frame : List ℕ) (t : Reader) (p : ℕ) : Type 0 where
   pub some : p ≤ n
-  pub ok : t.fault ≡ 0
   pub stands : Stands input t
   pub kept : length frame ≡ size
-  pub verdict : outcome input (replicate n kind_px) s ≡ outcome input (replicate (n - p) kind_px) t
+  pub verdict : outcome input (replicate n kind_px) (Ok s) ≡ outcome input (replicate (n - p) kind_px) (Ok t)
   pub pixels : take (3 * p) frame ++ painted (n - p) (split 10 (drop t.at input)) ≡ painted n (split 10 (drop s.at input))
 
--- a reader with a fault asks for nothing more
-any : (n l : ℕ) (v w : Verdict) → 0 < n → onward n l v ≡ onward n l w
-any zero l v w h = absurd (let z : ⊥ = omega arith in z)
-any (suc n) l v w h = refl
-
-pub stopped_at : (input : List ℕ) (ks js : List Kind) (t : Reader) → 0 < t.fault → outcome input ks t ≡ outcome input js t
-stopped_at input ks js t h = any t.fault t.line _ _ h
-
 module _ (input : List ℕ) (n : ℕ) (s : Reader) (size : ℕ) where
-  pub reading_none : (frame : List ℕ) → s.fault ≡ 0 → Stands input s → length frame ≡ size → Reading input n s size frame s 0
-  reading_none frame ok st e =
+  pub reading_none : (frame : List ℕ) → Stands input s → length frame ≡ size → Reading input n s size frame s 0
+  reading_none frame st e =
       record {
         some = omega arith;
-        ok = ok;
         stands = st;
         kept = e;
-        verdict = ap (λ (k : ℕ). outcome input (replicate k kind_px) s) (sym (sub-zero n));
+        verdict = ap (λ (k : ℕ). outcome input (replicate k kind_px) (Ok s)) (sym (sub-zero n));
         pixels = ap (λ (k : ℕ). painted k (split 10 (drop s.at input))) (sub-zero n);
       }
 
   module _ (frame : List ℕ) (t : Reader) (p : ℕ) (r : Reading input n s size frame t p) where
-    pub reading_stop : (u : Reader) (m : List ℕ) → p < n → Passed input kind_px t u → 0 < u.fault → Painted input n s u m
-    reading_stop u m h a f =
+    pub reading_stop : (f : Fault) (m : List ℕ) → p < n → Passed input kind_px t (Err f) → Painted input n s (Err f) m
+    reading_stop f m h a =
         let e : n - p ≡ suc (n - (p + 1)) = omega arith in
         record {
-          verdict =
-              r.verdict ∙ ap (λ (k : ℕ). outcome input (replicate k kind_px) t) e ∙ a.verdict (replicate (n - (p + 1)) kind_px)
-              ∙ stopped_at input (replicate (n - (p + 1)) kind_px) [] u f;
-          stands = a.stands;
-          pixels = λ z. absurd (let y : ⊥ = omega arith in y);
+          verdict = r.verdict ∙ ap (λ (k : ℕ). outcome input (replicate k kind_px) (Ok t)) e ∙ a.verdict (replicate (n - (p + 1)) kind_px);
+          placed = a.placed;
+          pixels = tt;
         }
 
-    pub reading_on : (u : Reader) → p < n → 3 * n ≤ size → Passed input kind_px t u → u.fault ≡ 0
+    pub reading_on : (u : Reader) → p < n → 3 * n ≤ size → Passed input kind_px t (Ok u)
         → Reading input n s size (sets frame (3 * p) (channels (colour_of (passed input t u)))) u (p + 1)
     unfolding painted
-    reading_on u h room a f =
+    reading_on u h room a =
         let e : n - p ≡ suc (n - (p + 1)) = omega arith in
-        let b = a.accepted f in
+        let b = a.accepted in
         let vs : List ℕ = channels (colour_of (passed input t u)) in
         let k : 3 * (p + 1) ≡ 3 * p + 3 = omega arith in
         let m : 3 * p + 3 ≤ length frame = omega (arith, r.kept) in
@@ -130,10 +120,9 @@ module _ (input : List ℕ) (n : ℕ) (s : Reader) (size : ℕ) where
         ap₂ painted e b.line in
         record {
           some = omega arith;
-          ok = f;
-          stands = a.stands;
+          stands = a.placed;
           kept = length-sets frame (3 * p) vs ∙ r.kept;
-          verdict = r.verdict ∙ ap (λ (j : ℕ). outcome input (replicate j kind_px) t) e ∙ a.verdict (replicate (n - (p + 1)) kind_px);
+          verdict = r.verdict ∙ ap (λ (j : ℕ). outcome input (replicate j kind_px) (Ok t)) e ∙ a.verdict (replicate (n - (p + 1)) kind_px);
           pixels =
               ap (λ (j : ℕ). take j (sets frame (3 * p) vs) ++ painted (n - (p + 1)) (split 10 (drop u.at input))) k
               ∙ ap (λ (l : List ℕ). l ++ painted (n - (p + 1)) (split 10 (drop u.at input))) (take_sets vs frame (3 * p) m)
@@ -142,15 +131,15 @@ module _ (input : List ℕ) (n : ℕ) (s : Reader) (size : ℕ) where
               ∙ r.pixels;
         }
 
-    pub reading_done : n ≤ p → Painted input n s t frame
+    pub reading_done : n ≤ p → Painted input n s (Ok t) frame
     unfolding painted
     reading_done h =
         let z : n - p ≡ 0 = omega arith in
         let e : p ≡ n = omega (arith, r.some) in
         record {
-          verdict = r.verdict ∙ ap (λ (k : ℕ). outcome input (replicate k kind_px) t) z;
-          stands = r.stands;
-          pixels = λ _.
+          verdict = r.verdict ∙ ap (λ (k : ℕ). outcome input (replicate k kind_px) (Ok t)) z;
+          placed = r.stands;
+          pixels =
               sym (append-nil (take (3 * n) frame))
               ∙ sym (ap₂ (λ (k j : ℕ). take (3 * k) frame ++ painted j (split 10 (drop t.at input))) e z)
               ∙ r.pixels;
@@ -158,33 +147,22 @@ module _ (input : List ℕ) (n : ℕ) (s : Reader) (size : ℕ) where
 
 -- ---- the frame as a whole
 
-module _ (input : List ℕ) (s u : Reader) (frame : List ℕ) (p : Passed input kind_size s u) where
+module _ (input : List ℕ) (s : Reader) (frame : List ℕ) where
   -- a fault in the first line
-  pub framed_first : 0 < u.fault → (r : Frame) → r.next ≡ u → Framed input s r frame
-  framed_first h r e =
-      let n : ℕ = cells (size_of (line_from input s 0)) in
-      record {
-        verdict = p.verdict (kind_set ∷ replicate n kind_px) ∙ stopped_at input (kind_set ∷ replicate n kind_px) [] u h ∙ ap (outcome input []) (sym e);
-        stands = rw e p.stands;
-        whole = λ f. let g : r.next.fault ≡ u.fault = ap (λ (x : Reader). x.fault) e in absurd (let y : ⊥ = omega arith in y);
-      }
+  pub framed_first : (f : Fault) → Passed input kind_size s (Err f) → Framed input s (Err f) frame
+  framed_first f p =
+      record { verdict = p.verdict (kind_set ∷ replicate (cells (size_of (line_from input s 0))) kind_px); placed = p.placed; whole = tt }
 
-  module _ (v : Reader) (q : Passed input kind_set u v) where
+  module _ (u : Reader) (p : Passed input kind_size s (Ok u)) where
     -- a fault in the second
-    pub framed_second : 0 < v.fault → (r : Frame) → r.next ≡ v → Framed input s r frame
-    framed_second h r e =
+    pub framed_second : (f : Fault) → Passed input kind_set u (Err f) → Framed input s (Err f) frame
+    framed_second f q =
         let n : ℕ = cells (size_of (line_from input s 0)) in
-        record {
-          verdict =
-              p.verdict (kind_set ∷ replicate n kind_px) ∙ q.verdict (replicate n kind_px) ∙ stopped_at input (replicate n kind_px) [] v h
-              ∙ ap (outcome input []) (sym e);
-          stands = rw e q.stands;
-          whole = λ f. let g : r.next.fault ≡ v.fault = ap (λ (x : Reader). x.fault) e in absurd (let y : ⊥ = omega arith in y);
-        }
+        record { verdict = p.verdict (kind_set ∷ replicate n kind_px) ∙ q.verdict (replicate n kind_px); placed = q.placed; whole = tt }
 
-    module _ (a : Accepted input kind_size s u) (b : Accepted input kind_set u v) where
+    module _ (v : Reader) (q : Passed input kind_set u (Ok v)) where
       lines : split 10 (drop s.at input) ≡ passed input s u ∷ passed input u v ∷ split 10 (drop v.at input)
-      lines = a.line ∙ ap (λ (ps : List (List ℕ)). passed input s u ∷ ps) b.line
+      lines = p.accepted.line ∙ ap (λ (ps : List (List ℕ)). passed input s u ∷ ps) q.accepted.line
 
       line_size : line_from input s 0 ≡ passed input s u
       unfolding field_of
@@ -194,20 +172,28 @@ module _ (input : List ℕ) (s u : Reader) (frame : List ℕ) (p : Passed input 
       unfolding field_of
       line_set = ap (λ (ps : List (List ℕ)). get_or ps 1 []) lines
 
-      pub framed_pixels : (z : Size) (k : Settings) (w : Reader) → z ≡ size_of (passed input s u) → k ≡ settings_of (passed input u v)
-          → Painted input (cells z) v w frame → Framed input s (record { z = z; k = k; next = w }) frame
-      framed_pixels z k w ez ek r =
-          let m : cells (size_of (line_from input s 0)) ≡ cells z = ap (λ (l : List ℕ). cells (size_of l)) line_size ∙ ap cells (sym ez) in
-          record {
-            verdict =
-                ap (λ (n : ℕ). outcome input (kinds n) s) m ∙ p.verdict (kind_set ∷ replicate (cells z) kind_px) ∙ q.verdict (replicate (cells z) kind_px)
-                ∙ r.verdict;
-            stands = r.stands;
-            whole = λ f. record {
-              size = ez ∙ sym (ap size_of line_size);
-              settings = ek ∙ sym (ap settings_of line_set);
-              size_sound = ap (fault kind_size) line_size ∙ a.sound;
-              settings_sound = ap (fault kind_set) line_set ∙ b.sound;
-              pixels = r.pixels f ∙ sym (ap (λ (ps : List (List ℕ)). painted (cells z) (drop 2 ps)) lines);
-            };
-          }
+      module _ (z : Size) (k : Settings) (ez : z ≡ size_of (passed input s u)) (ek : k ≡ settings_of (passed input u v)) where
+        judged : (r : Result Reader Fault) → Painted input (cells z) v r frame
+            → outcome input (kinds (cells (size_of (line_from input s 0)))) (Ok s) ≡ outcome input [] r
+        judged r w =
+            let m : cells (size_of (line_from input s 0)) ≡ cells z = ap (λ (l : List ℕ). cells (size_of l)) line_size ∙ ap cells (sym ez) in
+            ap (λ (n : ℕ). outcome input (kinds n) (Ok s)) m ∙ p.verdict (kind_set ∷ replicate (cells z) kind_px)
+            ∙ q.verdict (replicate (cells z) kind_px) ∙ w.verdict
+
+        -- a fault in a pixel
+        pub framed_third : (f : Fault) → Painted input (cells z) v (Err f) frame → Framed input s (Err f) frame
+        framed_third f w = record { verdict = judged (Err f) w; placed = w.placed; whole = tt }
+
+        pub framed_pixels : (w : Reader) → Painted input (cells z) v (Ok w) frame → Framed input s (Ok (record { z = z; k = k; next = w })) frame
+        framed_pixels w r =
+            record {
+              verdict = judged (Ok w) r;
+              placed = r.placed;
+              whole = record {
+                size = ez ∙ sym (ap size_of line_size);
+                settings = ek ∙ sym (ap settings_of line_set);
+                size_sound = ap (fault kind_size) line_size ∙ p.accepted.sound;
+                settings_sound = ap (fault kind_set) line_set ∙ q.accepted.sound;
+                pixels = r.pixels ∙ sym (ap (λ (ps : List (List ℕ)). painted (cells z) (drop 2 ps)) lines);
+              };
+            }

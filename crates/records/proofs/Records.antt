@@ -1,41 +1,26 @@
--- One line: what its fields say as numbers, and what is wrong with it, test by test. Assumes nothing.
+-- One line: which of its fields are numbers, and what is wrong with it, test by test. Assumes nothing.
 use mathlib.Core.Path.{◌≡◌, refl, sym, ap, ◌∙◌}
 use mathlib.Core.Bool.{Bool, true, false, cond}
 use mathlib.Core.List.{List}
 use Prim.Native.Nat.{ℕ}
-use native.Mathlib.Omega.{arith}
-use Rattle.fields.specs.declared.Number.{Number}
-use Rattle.fields.specs.declared.Number.TheVariants.{Is, Bad}
+use Rattle.std.specs.Prelude.{Option, Some, None, is_some}
 use Rattle.fields.specs.LaidOut.{laid}
-use Rattle.fields.specs.Fields.{field_of}
-use Rattle.fields.specs.Decimal.{numeral, number_of, value_from, value_in}
+use Rattle.fields.specs.Decimal.{numeral, number_of, value_from}
 use Rattle.rules.specs.Refusals.{bad_size, bad_settings}
 use Rattle.fields.specs.Words.{bytes}
 use Rattle.records.specs.declared.Kind.TheVariants.{Size, Set, Px}
-use Rattle.records.specs.Records.{number_at, size_of, settings_of, large, bright, fault}
+use Rattle.records.specs.Records.{size_of, settings_of, large, bright, fault}
 
 -- ---- a field as a number
 
-module _ (f : List ℕ) (n : Number) (e : n ≡ number_of f) where
-  pub is_numeral : (v : ℕ) → n ≡ Is v → true ≡ numeral f
-  unfolding number_of
-  is_numeral v q = go (numeral f) (sym e ∙ q)
-    where
-      go : (t : Bool) → cond t (Is (value_from 0 f)) Bad ≡ Is v → true ≡ t
-      go true h = refl
-      go false h = absurd (let z : ◌≡◌ {A = ℕ} 0 1 = cc in let y : ⊥ = omega arith in y)
-
-  pub no_numeral : n ≡ Bad → false ≡ numeral f
-  unfolding number_of
-  no_numeral q = go (numeral f) (sym e ∙ q)
-    where
-      go : (t : Bool) → cond t (Is (value_from 0 f)) Bad ≡ Bad → false ≡ t
-      go true h = absurd (let z : ◌≡◌ {A = ℕ} 0 1 = cc in let y : ⊥ = omega arith in y)
-      go false h = refl
-
-pub number_by : (line : List ℕ) (i : ℕ) (n k : Number) → n ≡ number_of (field_of 9 line i) → n ≡ k → value_in k ≡ number_at line i
-unfolding number_at
-number_by line i n k e q = ap value_in (sym q ∙ e)
+-- there is a number exactly where there is a numeral
+pub some_numeral : (f : List ℕ) → is_some (number_of f) ≡ numeral f
+unfolding number_of
+some_numeral f = go (numeral f)
+  where
+    go : (t : Bool) → is_some (cond t (Some (value_from 0 f)) None) ≡ t
+    go true = refl
+    go false = refl
 
 -- ---- what is wrong with a line, test by test
 

@@ -3,6 +3,7 @@
 
 ghost use Rattle.std.specs.Prelude.{◌≡◌, ◌+◌, ◌*◌, ◌≤◌, ◌<◌, length, drop};
 ghost use Rattle.std.proofs.lemmas.List.Edits.{sets};
+ghost use Rattle.rules.specs.Answers.{said};
 ghost use Rattle.fields.specs.Every.{every};
 ghost use Rattle.fields.specs.LaidOut.{laid as is_laid};
 ghost use Rattle.fields.specs.Fields.{split, field_of};
@@ -11,11 +12,11 @@ ghost use Rattle.records.specs.Records.{number_at, size_of, settings_of, colour_
 ghost use Rattle.records.specs.Judging.{channels};
 ghost use Rattle.records.specs.Reader.{Stands, Passed, Painted, Framed};
 
-use fields::{Line, Number};
-use rules::{Settings, Size};
+use judge::{refuse, wrong_settings, wrong_size};
+use rules::{Refusal, Settings, Size};
 
 // The three records.
-#[derive(Clone, Copy)]
+#[derive(Clone, Copy, Debug, PartialEq, Eq)]
 pub enum Kind {
     Size,
     Set,
@@ -28,20 +29,14 @@ pub enum Kind {
 fn is_number(line: &[u8], n: usize) -> bool
     ensures { result ≡ numeral (field_of 9 line.now n) }
 {
-    match fields::read_number(fields::field(line, n)) {
-        Number::Is(_) => true,
-        Number::Bad => false,
-    }
+    fields::read_number(fields::field(line, n)).is_some()
 }
 
 // The number in field n, 0 where there is none.
 fn number_at(line: &[u8], n: usize) -> usize
     ensures { result ≡ number_at line.now n }
 {
-    match fields::read_number(fields::field(line, n)) {
-        Number::Is(v) => v,
-        Number::Bad => 0,
-    }
+    fields::read_number(fields::field(line, n)).unwrap_or(0)
 }
 
 // Whether all fields after the first are numbers.
@@ -49,12 +44,10 @@ fn all_numbers(line: &[u8], count: usize) -> bool
     requires { count ≡ length (split 9 line.now) }
     ensures { result ≡ every numeral (drop 1 (split 9 line.now)) }
 {
-    let mut i = 1;
-    while i < count {
+    for i in 1..count {
         if !is_number(line, i) {
             return false;
         }
-        i += 1;
     }
     true
 }
@@ -64,13 +57,7 @@ fn laid(line: &[u8], count: usize, word: &[u8], n: usize) -> bool
     requires { (count ≡ length (split 9 line.now)) × (n ≤ 8) }
     ensures { result ≡ is_laid numeral word.now n line.now }
 {
-    if !fields::same(fields::field(line, 0), word) {
-        return false;
-    }
-    if count != n + 1 {
-        return false;
-    }
-    all_numbers(line, count)
+    fields::same(fields::field(line, 0), word) && count == n + 1 && all_numbers(line, count)
 }
 
 fn size_of(line: &[u8]) -> Size
@@ -99,64 +86,46 @@ fn settings_of(line: &[u8]) -> Settings
 fn large(z: Size) -> bool
     ensures { result ≡ is_large z }
 {
-    judge::either(24 < z.w, 24 < z.h)
+    24 < z.w || 24 < z.h
 }
 
 // Whether a number of a pixel is above 255.
 fn bright(line: &[u8]) -> bool
     ensures { result ≡ is_bright line.now }
 {
-    let first = judge::either(255 < number_at(line, 1), 255 < number_at(line, 2));
-    judge::either(first, 255 < number_at(line, 3))
+    255 < number_at(line, 1) || 255 < number_at(line, 2) || 255 < number_at(line, 3)
 }
 
-fn fault_of_size(line: &[u8], count: usize) -> u8
+fn fault_of_size(line: &[u8], count: usize) -> Result<(), Refusal>
     requires { count ≡ length (split 9 line.now) }
-    ensures { result ≡ fault Kind.Size line.now }
+    ensures { said result ≡ fault Kind.Size line.now }
 {
-    if !laid(line, count, b"size", 2) {
-        return 9;
-    }
+    refuse(!laid(line, count, b"size", 2), Refusal::Layout)?;
     let z = size_of(line);
-    if judge::wrong_size(z) {
-        return 1;
-    }
-    if large(z) {
-        return 10;
-    }
-    0
+    refuse(wrong_size(z), Refusal::Size)?;
+    refuse(large(z), Refusal::Large)
 }
 
-fn fault_of_set(line: &[u8], count: usize) -> u8
+fn fault_of_set(line: &[u8], count: usize) -> Result<(), Refusal>
     requires { count ≡ length (split 9 line.now) }
-    ensures { result ≡ fault Kind.Set line.now }
+    ensures { said result ≡ fault Kind.Set line.now }
 {
-    if !laid(line, count, b"set", 6) {
-        return 9;
-    }
-    if judge::wrong_settings(settings_of(line)) {
-        return 2;
-    }
-    0
+    refuse(!laid(line, count, b"set", 6), Refusal::Layout)?;
+    refuse(wrong_settings(settings_of(line)), Refusal::Settings)
 }
 
-fn fault_of_px(line: &[u8], count: usize) -> u8
+fn fault_of_px(line: &[u8], count: usize) -> Result<(), Refusal>
     requires { count ≡ length (split 9 line.now) }
-    ensures { result ≡ fault Kind.Px line.now }
+    ensures { said result ≡ fault Kind.Px line.now }
 {
-    if !laid(line, count, b"px", 3) {
-        return 9;
-    }
-    if bright(line) {
-        return 9;
-    }
-    0
+    refuse(!laid(line, count, b"px", 3), Refusal::Layout)?;
+    refuse(bright(line), Refusal::Layout)
 }
 
-// What is wrong with a line of so many fields as a record of the kind: the number of the refusal, 0 for nothing.
-fn fault_of(kind: Kind, line: &[u8], count: usize) -> u8
+// Why a line of so many fields is refused as a record of the kind.
+fn fault_of(kind: Kind, line: &[u8], count: usize) -> Result<(), Refusal>
     requires { count ≡ length (split 9 line.now) }
-    ensures { result ≡ fault kind line.now }
+    ensures { said result ≡ fault kind line.now }
 {
     match kind {
         Kind::Size => fault_of_size(line, count),
@@ -167,41 +136,39 @@ fn fault_of(kind: Kind, line: &[u8], count: usize) -> u8
 
 // ---- line by line
 
-// Where the next line begins, and its number. With a fault, the line at fault.
+// Where the next line begins, and its number.
 #[derive(Clone, Copy)]
 pub struct Reader {
     pub at: usize,
     pub line: usize,
-    pub fault: u8,
 }
 
-// One line on: the line is judged as a record of the kind. The reader stays at a line with a fault.
-fn pass(input: &[u8], s: Reader, kind: Kind) -> Reader
-    requires { Stands input.now s × (s.fault ≡ 0) }
+// Why a text is refused, and the number of the line at fault.
+#[derive(Clone, Copy)]
+pub struct Fault {
+    pub refusal: Refusal,
+    pub line: usize,
+}
+
+// One line on: the line is judged as a record of the kind.
+fn pass(input: &[u8], s: Reader, kind: Kind) -> Result<Reader, Fault>
+    requires { Stands input.now s }
     ensures { Passed input.now kind s result }
 {
     let at = s.at;
+    let line = s.line;
     match fields::line_at(input, at) {
-        Line::Ends(end, count) => {
-            let fault = fault_of(kind, &input[at..end], count);
-            if fault > 0 {
-                return Reader {
-                    at,
-                    line: s.line,
-                    fault,
-                };
-            }
-            Reader {
-                at: end + 1,
-                line: s.line + 1,
-                fault: 0,
-            }
-        }
-        Line::Broken => Reader {
-            at,
-            line: s.line,
-            fault: 9,
+        Some(found) => match fault_of(kind, &input[at..found.end], found.fields) {
+            Ok(()) => Ok(Reader {
+                at: found.end + 1,
+                line: line + 1,
+            }),
+            Err(refusal) => Err(Fault { refusal, line }),
         },
+        None => Err(Fault {
+            refusal: Refusal::Layout,
+            line,
+        }),
     }
 }
 
@@ -217,24 +184,19 @@ fn put_pixel(frame: &mut [u8], p: usize, line: &[u8])
 }
 
 // n lines `px` on, their pixels into the frame.
-fn read_pixels(input: &[u8], s: Reader, n: usize, frame: &mut [u8]) -> Reader
-    requires { Stands input.now s × (s.fault ≡ 0) × (3 * n ≤ length frame.old) }
+fn read_pixels(input: &[u8], s: Reader, n: usize, frame: &mut [u8]) -> Result<Reader, Fault>
+    requires { Stands input.now s × (3 * n ≤ length frame.old) }
     ensures { Painted input.now n s result frame.new }
 {
     let mut t = s;
-    let mut p = 0;
-    while p < n {
-        let next = pass(input, t, Kind::Px);
-        if next.fault > 0 {
-            return next;
-        }
+    for p in 0..n {
+        let next = pass(input, t, Kind::Px)?;
         let at = t.at;
         let end = next.at - 1;
         put_pixel(frame, p, &input[at..end]);
         t = next;
-        p += 1;
     }
-    t
+    Ok(t)
 }
 
 // One frame of a text: its size, its settings, and where the reader stands after its last pixel.
@@ -245,43 +207,19 @@ pub struct Frame {
     pub next: Reader,
 }
 
-// A frame with a fault: its size and its settings mean nothing.
-fn stopped(next: Reader) -> Frame
-    ensures { result.next ≡ next }
-{
-    Frame {
-        z: Size { w: 0, h: 0 },
-        k: Settings {
-            s: 0,
-            r: 0,
-            omega: 0,
-            e: 0,
-            t0: 0,
-            share: 0,
-        },
-        next,
-    }
-}
-
 // The frame that begins where s stands: `size`, `set`, and the pixels into the lent memory.
-pub fn read_frame(input: &[u8], s: Reader, frame: &mut [u8]) -> Frame
-    requires { Stands input.now s × (s.fault ≡ 0) × (1728 ≤ length frame.old) }
+pub fn read_frame(input: &[u8], s: Reader, frame: &mut [u8]) -> Result<Frame, Fault>
+    requires { Stands input.now s × (1728 ≤ length frame.old) }
     ensures { Framed input.now s result frame.new }
 {
-    let one = pass(input, s, Kind::Size);
-    if one.fault > 0 {
-        return stopped(one);
-    }
-    let two = pass(input, one, Kind::Set);
-    if two.fault > 0 {
-        return stopped(two);
-    }
+    let one = pass(input, s, Kind::Size)?;
+    let two = pass(input, one, Kind::Set)?;
     let from = s.at;
     let at = one.at;
     let end = at - 1;
     let last = two.at - 1;
     let z = size_of(&input[from..end]);
     let k = settings_of(&input[at..last]);
-    let next = read_pixels(input, two, z.w * z.h, frame);
-    Frame { z, k, next }
+    let next = read_pixels(input, two, z.w * z.h, frame)?;
+    Ok(Frame { z, k, next })
 }

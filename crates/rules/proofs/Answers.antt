@@ -3,7 +3,8 @@
 use mathlib.Core.Path.{◌≡◌, refl, sym, ap, ◌∙◌}
 use Prim.Native.Nat.{ℕ, zero, suc, ◌≤◌}
 use native.Mathlib.Omega.{arith}
-use Rattle.std.specs.Prelude.{Result, Ok, Err}
+use Rattle.std.specs.Prelude.{Result, Ok, Err, IsErr}
+use Rattle.std.specs.Result.{IsErrAnd}
 use Rattle.rules.specs.declared.Figure.{Figure}
 use Rattle.rules.specs.declared.Refusal.{Refusal}
 use Rattle.rules.specs.declared.Refusal.TheVariants as refusal
@@ -99,6 +100,11 @@ pub or_is : {A : Type 0} (n : ℕ) (v w : A) → Ok w ≡ or n v → (n ≡ 0) �
 or_is {A} n v w e =
     let free : n ≡ 0 = or_free n v (Ok w) e refl in
     (free, ap (λ (r : Result A Refusal). left r w) (e ∙ ap (λ (i : ℕ). or i v) free))
+
+-- what a `?` hands on: the same error
+pub error_is : {T E : Type 0} (r : Result T E) (e : E) → IsErr r × IsErrAnd r (λ y. y ≡ e) → r ≡ Err e
+error_is (Ok v) e h = absurd h.1
+error_is (Err y) e h = ap Err h.1
 
 -- ---- that of Band figure
 

@@ -1,43 +1,39 @@
 -- `records::pass` meets its contract: the reader's answer on the line, then the judge's. Assumes nothing.
-use mathlib.Core.Path.{◌≡◌, sym, ◌∙◌}
+use mathlib.Core.Path.{◌≡◌, sym, ap, ◌∙◌}
 use native.Mathlib.Omega.{arith}
+use Rattle.std.specs.Prelude.{Result}
+use Rattle.rules.specs.declared.Refusal.{Refusal}
+use Rattle.rules.specs.Answers.{said}
 use Rattle.fields.proofs.Lines.{Ended, ended}
 use Rattle.records.proofs.Passing.{pass_broken, pass_fault, pass_on}
 use Rattle.records.proofs.pass.Goals as goal
-use Rattle.records.proofs.pass.Goals.{In-Ends}
+use Rattle.records.proofs.pass.Goals.{In-Some}
 
 -- the line, where it ends
-found : (c : In-Ends) → Ended c.args.input.now c.args.s.at c.in-Ends.end c.in-Ends.count
-found c =
-    ended c.args.input.now c.args.s.at _ _ c.requires.0.within (sym c.line_at.ensures ∙ c.in-Ends.is)
+found : (c : In-Some) → Ended c.args.input.now c.args.s.at c.in-Some.found.end c.in-Some.found.fields
+found c = ended c.args.input.now c.args.s.at _ _ c.requires.within (sym c.line_at.ensures ∙ c.in-Some.is)
 
 pub slice_bounds-fault_of-count : goal.slice_bounds-fault_of-count
-slice_bounds-fault_of-count c = omega (arith, found (goal.at.slice_bounds-fault_of-count c).In-Ends)
+slice_bounds-fault_of-count c = omega (arith, found (goal.at.slice_bounds-fault_of-count c).In-Some)
 
 pub slice_bounds-fault_of-start : goal.slice_bounds-fault_of-start
-slice_bounds-fault_of-start c = omega (arith, found (goal.at.slice_bounds-fault_of-start c).In-Ends)
+slice_bounds-fault_of-start c = omega (arith, found (goal.at.slice_bounds-fault_of-start c).In-Some)
 
 pub slice_bounds-fault_of-end : goal.slice_bounds-fault_of-end
-slice_bounds-fault_of-end c = omega (arith, found (goal.at.slice_bounds-fault_of-end c).In-Ends)
+slice_bounds-fault_of-end c = omega (arith, found (goal.at.slice_bounds-fault_of-end c).In-Some)
 
-pub fault_of-fault-requires : goal.fault_of-fault-requires
-fault_of-fault-requires c = (found (goal.at.fault_of-fault-requires c).In-Ends).count
+pub fault_of-requires : goal.fault_of-requires
+fault_of-requires c = (found (goal.at.fault_of-requires c).In-Some).count
 
-pub returns-then-fault-gt0 : goal.returns-then-fault-gt0
-returns-then-fault-gt0 c =
-    pass_fault c.args.input.now c.args.kind c.args.s c.requires.0 c.requires.1 _ _ (found (goal.at.returns-then-fault-gt0 c).In-Ends) _ c.fault_of-fault.ensures c.if-fault-gt0.true
+pub returns-in-Ok : goal.returns-in-Ok
+returns-in-Ok c =
+    let told = sym (ap (said {A = Unit {0}}) c.in-Ok.is) ∙ c.fault_of.ensures in
+    pass_on c.args.input.now c.args.kind c.args.s c.requires _ _ (found (goal.at.returns-in-Ok c).In-Some) told
 
-pub overflow_add-result : goal.overflow_add-result
-overflow_add-result c = omega (arith, found (goal.at.overflow_add-result c).In-Ends, c.well_formed)
+pub returns-in-Err : goal.returns-in-Err
+returns-in-Err c =
+    let told = sym (ap (said {A = Unit {0}}) c.in-Err.is) ∙ c.fault_of.ensures in
+    pass_fault c.args.input.now c.args.kind c.args.s c.requires _ _ (found (goal.at.returns-in-Err c).In-Some) _ told
 
-pub overflow_add-result-in-Ends : goal.overflow_add-result-in-Ends
-overflow_add-result-in-Ends c = omega (arith, c.requires.0, c.well_formed)
-
-pub returns-else-fault-gt0 : goal.returns-else-fault-gt0
-returns-else-fault-gt0 c =
-    let z : 0 ≡ c.fault_of-fault.result = omega (arith, c.if-fault-gt0.false) in
-    pass_on c.args.input.now c.args.kind c.args.s c.requires.0 c.requires.1 _ _ (found (goal.at.returns-else-fault-gt0 c).In-Ends) (z ∙ c.fault_of-fault.ensures)
-
-pub returns-in-Broken : goal.returns-in-Broken
-returns-in-Broken c =
-    pass_broken c.args.input.now c.args.kind c.args.s c.requires.0 c.requires.1 (sym c.line_at.ensures ∙ c.in-Broken.is)
+pub returns-in-None : goal.returns-in-None
+returns-in-None c = pass_broken c.args.input.now c.args.kind c.args.s c.requires (sym c.line_at.ensures ∙ c.in-None.is)

@@ -1,60 +1,56 @@
--- `records::read_pixels` meets its contract. The invariant is `Reading`: the frame up to pixel p and the pixels of what is left of the input are the pixels
--- of the whole, and the verdict on the whole is the verdict on what is left. Assumes nothing.
-use mathlib.Core.Path.{◌≡◌, refl, sym, subst}
+-- `records::read_pixels` meets its contract. Assumes nothing.
+use mathlib.Core.Path.{◌≡◌, refl, sym, ap, ◌∙◌, subst}
 use mathlib.Core.List.{List}
 use Prim.Native.Nat.{ℕ, ◌+◌}
 use native.Mathlib.Omega.{arith}
 use lib.ListN.{length}
+use Rattle.std.specs.Prelude.{Result, Ok, Err}
+use Rattle.rules.proofs.Answers.{error_is}
 use Rattle.records.specs.declared.Kind.TheVariants.{Px}
-use Rattle.records.specs.Reader.{Accepted}
+use Rattle.records.specs.declared.Reader.{Reader}
+use Rattle.records.specs.declared.Fault.{Fault}
+use Rattle.records.specs.Reader.{Passed, Painted}
 use Rattle.records.proofs.Frames.{Reading, reading_none, reading_stop, reading_on, reading_done}
 use Rattle.records.proofs.read_pixels.Goals as goal
-use Rattle.records.proofs.read_pixels.Goals.{Else-next-gt0}
+use Rattle.records.proofs.read_pixels.Goals.{In_ok-next}
 
 pub loop-p-init : goal.loop-p-init
 loop-p-init c =
-    reading_none c.args.input.now c.args.n c.args.s (length c.args.frame.now) c.args.frame.now c.requires.1 c.requires.0 refl
+    reading_none c.args.input.now c.args.n c.args.s (length c.args.frame.now) c.args.frame.now c.requires.0 refl
 
-pub pass-next-requires : goal.pass-next-requires
-pass-next-requires c = (c.loop-p.invariant.stands, c.loop-p.invariant.ok)
+pub pass-requires : goal.pass-requires
+pass-requires c = c.loop-p.invariant.stands
 
-pub returns-then-next-gt0 : goal.returns-then-next-gt0
-returns-then-next-gt0 c =
+pub returns-in_err-next : goal.returns-in_err-next
+returns-in_err-next c =
     let a = c.args in
     let l = c.loop-p in
-    reading_stop a.input.now a.n a.s (length a.frame.now) l.frame l.t l.p l.invariant _ _ c.loop-p-test.true c.pass-next.ensures c.if-next-gt0.true
+    subst (λ (r : Result Reader Fault). Painted a.input.now a.n a.s r l.frame) (sym (error_is _ _ c.from_residual.ensures))
+    (reading_stop a.input.now a.n a.s (length a.frame.now) l.frame l.t l.p l.invariant _ _ c.loop-p-test.true
+    (subst (Passed a.input.now Px l.t) c.in_err-next.was c.pass.ensures))
 
--- the line that was passed has no fault
-clean : (c : Else-next-gt0) → c.pass-next.result.fault ≡ 0
-clean c = omega (arith, c.if-next-gt0.false)
-
-line : (c : Else-next-gt0) → Accepted c.args.input.now Px c.loop-p.t c.pass-next.result
-line c = c.pass-next.ensures.accepted (clean c)
+-- the line that was passed
+line : (c : In_ok-next) → Passed c.args.input.now Px c.loop-p.t (Ok c.in_ok-next.next)
+line c = subst (Passed c.args.input.now Px c.loop-p.t) c.in_ok-next.was c.pass.ensures
 
 pub overflow_sub-end : goal.overflow_sub-end
-overflow_sub-end c = omega (arith, (line (goal.at.overflow_sub-end c).Else-next-gt0).on)
+overflow_sub-end c = omega (arith, (line (goal.at.overflow_sub-end c).In_ok-next).accepted.on)
 
 pub slice_bounds-put_pixel-count : goal.slice_bounds-put_pixel-count
-slice_bounds-put_pixel-count c = omega (arith, (line (goal.at.slice_bounds-put_pixel-count c).Else-next-gt0).on)
+slice_bounds-put_pixel-count c = omega (arith, (line (goal.at.slice_bounds-put_pixel-count c).In_ok-next).accepted.on)
 
 pub put_pixel-requires : goal.put_pixel-requires
 put_pixel-requires c =
     let l = c.loop-p in
-    (omega (arith, c.loop-p-test.true, l.invariant.kept, c.requires), (line (goal.at.put_pixel-requires c).Else-next-gt0).sound)
-
-pub overflow_add-p : goal.overflow_add-p
-overflow_add-p c = omega (arith, c.loop-p-test.true, c.ranges.n)
-
-pub loop-p-smaller : goal.loop-p-smaller
-loop-p-smaller c = omega (arith, c.loop-p-test.true)
+    (omega (arith, c.loop-p-test.true, l.invariant.kept, c.requires), (line (goal.at.put_pixel-requires c).In_ok-next).accepted.sound)
 
 pub loop-p-preserved : goal.loop-p-preserved
 loop-p-preserved c =
     let a = c.args in
     let l = c.loop-p in
-    let u = c.pass-next.result in
+    let u = c.in_ok-next.next in
     subst (λ (f : List ℕ). Reading a.input.now a.n a.s (length a.frame.now) f u (l.p + 1)) (sym c.put_pixel.ensures)
-    (reading_on a.input.now a.n a.s (length a.frame.now) l.frame l.t l.p l.invariant u c.loop-p-test.true c.requires.2 c.pass-next.ensures (clean (goal.at.loop-p-preserved c).Else-next-gt0))
+    (reading_on a.input.now a.n a.s (length a.frame.now) l.frame l.t l.p l.invariant u c.loop-p-test.true c.requires.1 (line (goal.at.loop-p-preserved c).In_ok-next))
 
 pub returns : goal.returns
 returns c =
