@@ -11,7 +11,7 @@ use lib.Seq.{drop-drop, take_at, drop_at, get_or-drop}
 use borrow.Author.Tests.{eq-eqb, lt-ltb, le-leb}
 use Rattle.fields.specs.Decimal.{figured, value_from}
 use Rattle.fields.proofs.Decimal.{figured_digits}
-use Rattle.pnm.specs.declared.Head.TheVariants as head
+use Rattle.std.specs.Prelude.{Some}
 use Rattle.pnm.specs.Header.{white, gap_in, run, from, figures, past, number, token, second, third, last, magic, closed, good, header_of}
 use Rattle.pnm.specs.Gap.{Gap, Parts, GoodParts, header}
 use Rattle.pnm.proofs.Gaps.{gap_taken, run_taken, number_ends_gap, white_ends_number, gap_ends_number, gap_some}
@@ -123,7 +123,7 @@ module _ (kind : ℕ) (p : Parts) (ok : GoodParts p) (rest : List ℕ) where
   pub header_says : Says kind (header kind p ++ rest) (value_from 0 p.wide) (value_from 0 p.tall) (value_from 0 p.top) rest
   header_says = parts_say kind (header kind p ++ rest) p ok rest magic_is (grouped p.gap1 p.wide p rest)
 
-  pub header_is : header_of kind (header kind p ++ rest) ≡ head.Is (value_from 0 p.wide) (value_from 0 p.tall) (value_from 0 p.top) (length (header kind p))
+  pub header_is : header_of kind (header kind p ++ rest) ≡ Some (record { width = value_from 0 p.wide; height = value_from 0 p.tall; maximum = value_from 0 p.top; start = length (header kind p) })
   unfolding header_of
   header_is =
       let start : suc (last (header kind p ++ rest)) ≡ length (header kind p) = omega (arith, header_says.start, length-append (header kind p) rest) in

@@ -1,6 +1,4 @@
 -- The laws that the proofs of the functions cite, and what a header that is put together from its parts says.
-pub mod Bytes
-pub mod Scan
 pub mod Tokens
 pub mod Gaps
 pub mod Headers

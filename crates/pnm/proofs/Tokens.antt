@@ -9,11 +9,9 @@ use lib.Dec.{leb, eqb}
 use lib.ListN.{length, get_or, take, drop, length-drop}
 use borrow.Author.Tests.{lt-ltb, le-ltb, leb-true}
 use Rattle.fields.proofs.Every.{both}
-use Rattle.fields.specs.declared.Number.TheVariants as number
 use Rattle.fields.specs.Decimal.{digit, figured, digits_of, value_from}
-use Rattle.pnm.proofs.Scan.{is, is_not}
-use Rattle.pnm.specs.declared.Token.TheVariants as token
-use Rattle.pnm.specs.declared.Head.TheVariants as head
+use Rattle.std.specs.Prelude.{Some, None, option_map}
+use Rattle.pnm.specs.declared.Token.{Token}
 use Rattle.pnm.specs.Header.{ends, white, opens, gap_in, run, from, figures, past, number, token, token_at, magic, closed, good, header_of}
 
 -- ---- a count is of bytes that are there
@@ -43,13 +41,16 @@ module _ (s : List ℕ) (at : ℕ) (h : at ≤ length s) where
 
 -- ---- a number behind a gap
 
+abbrev pub ending : ℕ → ℕ → Token
+ending end value = record { value = value; end = end }
+
 module _ (s : List ℕ) (at : ℕ) where
   -- the part of the list that holds its digits
   pub part_is : take (past s at - from s at) (drop (from s at) s) ≡ figures s at
   unfolding past figures
   part_is = ap (λ (n : ℕ). take n (drop (from s at) s)) (let z : from s at + run (drop (from s at) s) - from s at ≡ run (drop (from s at) s) = omega arith in z)
 
-  pub no_gap : from s at ≡ at → token.Bad ≡ token_at s at
+  pub no_gap : from s at ≡ at → None ≡ token_at s at
   unfolding token
   no_gap e = rw (le-ltb at (from s at) (omega arith))
 
@@ -58,78 +59,73 @@ module _ (s : List ℕ) (at : ℕ) where
     unfolding from
     some = omega (arith, gap)
 
-    pub no_digits : digits_of (figures s at) ≡ number.Bad → token.Bad ≡ token_at s at
+    -- the number is read of its digits
+    pub gap_read : token_at s at ≡ option_map (ending (past s at)) (digits_of (figures s at))
     unfolding digits_of token
-    no_digits e = rw (lt-ltb at (from s at) some) (go (figured (figures s at)) e)
+    gap_read = rw (lt-ltb at (from s at) some) (go (figured (figures s at)))
       where
-        go : (b : Bool) → cond b (number.Is (value_from 0 (figures s at))) number.Bad ≡ number.Bad → token.Bad ≡ cond b (token.Is (value_from 0 (figures s at)) (past s at)) token.Bad
-        go true h = absurd (let z : ◌≡◌ {A = ℕ} 0 1 = cc in let y : ⊥ = omega arith in y)
-        go false h = refl
-
-    pub with_digits : (v : ℕ) → digits_of (figures s at) ≡ number.Is v → token.Is v (past s at) ≡ token_at s at
-    unfolding digits_of token
-    with_digits v e = rw (lt-ltb at (from s at) some) (go (figured (figures s at)) e)
-      where
-        go : (b : Bool) → cond b (number.Is (value_from 0 (figures s at))) number.Bad ≡ number.Is v → token.Is v (past s at) ≡ cond b (token.Is (value_from 0 (figures s at)) (past s at)) token.Bad
-        go true h = cc
-        go false h = absurd (let z : ◌≡◌ {A = ℕ} 0 1 = cc in let y : ⊥ = omega arith in y)
+        go : (b : Bool) → cond b (Some (ending (past s at) (number s at))) None ≡ option_map (ending (past s at)) (cond b (Some (value_from 0 (figures s at))) None)
+        go true = refl
+        go false = refl
 
   -- ---- what the answer of such a call tells
 
-  pub record Told (v e : ℕ) : Type 0 where
+  pub record Told (t : Token) : Type 0 where
     pub good : token s at ≡ true
-    pub value : number s at ≡ v
-    pub end : past s at ≡ e
+    pub value : number s at ≡ t.value
+    pub end : past s at ≡ t.end
 
-  pub told : (v e : ℕ) → token_at s at ≡ token.Is v e → Told v e
-  told v e q = go (token s at) refl q
+  pub told : (t : Token) → token_at s at ≡ Some t → Told t
+  told t q = go (token s at) refl q
     where
-      go : (b : Bool) → token s at ≡ b → cond b (token.Is (number s at) (past s at)) token.Bad ≡ token.Is v e → Told v e
-      go true g h = record { good = g; value = cc; end = cc }
+      go : (b : Bool) → token s at ≡ b → cond b (Some (ending (past s at) (number s at))) None ≡ Some t → Told t
+      go true g h =
+          let same : ending (past s at) (number s at) ≡ t = cc in
+          record { good = g; value = ap (λ (x : Token). x.value) same; end = ap (λ (x : Token). x.end) same }
       go false g h = absurd (let z : ◌≡◌ {A = ℕ} 0 1 = cc in let y : ⊥ = omega arith in y)
 
-  pub told_within : {v e : ℕ} → at ≤ length s → Told v e → e ≤ length s
+  pub told_within : {t : Token} → at ≤ length s → Told t → t.end ≤ length s
   told_within h t = omega (arith, t.end, past_within s at h)
 
-  pub told_bad : token_at s at ≡ token.Bad → token s at ≡ false
+  pub told_bad : token_at s at ≡ None → token s at ≡ false
   told_bad q = go (token s at) q
     where
-      go : (b : Bool) → cond b (token.Is (number s at) (past s at)) token.Bad ≡ token.Bad → b ≡ false
+      go : (b : Bool) → cond b (Some (ending (past s at) (number s at))) None ≡ None → b ≡ false
       go true h = absurd (let z : ◌≡◌ {A = ℕ} 0 1 = cc in let y : ⊥ = omega arith in y)
       go false h = refl
 
 -- ---- the whole header
 
 module _ (kind : ℕ) (s : List ℕ) where
-  pub no_magic : not (magic kind s) ≡ true → head.Bad ≡ header_of kind s
+  pub no_magic : magic kind s ≡ false → None ≡ header_of kind s
   unfolding header_of good
-  no_magic m = rw (is_not (magic kind s) m)
+  no_magic m = rw m
 
-  module _ (m : not (magic kind s) ≡ false) where
+  module _ (m : magic kind s ≡ true) where
     -- there is room for the magic
     pub two : 2 ≤ length s
     unfolding magic
-    two = leb-true 2 (length s) (both (leb 2 (length s)) _ (both (leb 2 (length s) && eqb (get_or s 0 0) 80) _ (is (magic kind s) m)).0).0
+    two = leb-true 2 (length s) (both (leb 2 (length s)) _ (both (leb 2 (length s) && eqb (get_or s 0 0) 80) _ (m)).0).0
 
-    pub no_first : token s 2 ≡ false → head.Bad ≡ header_of kind s
+    pub no_first : token s 2 ≡ false → None ≡ header_of kind s
     unfolding header_of good
-    no_first t = rw (is (magic kind s) m, t)
+    no_first t = rw (m, t)
 
-    module _ {w a : ℕ} (first : Told s 2 w a) where
-      pub no_second : token s a ≡ false → head.Bad ≡ header_of kind s
+    module _ {w : Token} (first : Told s 2 w) where
+      pub no_second : token s w.end ≡ false → None ≡ header_of kind s
       unfolding header_of good
-      no_second t = rw (is (magic kind s) m, first.good, first.end, t)
+      no_second t = rw (m, first.good, first.end, t)
 
-      module _ {h b : ℕ} (next : Told s a h b) where
-        pub no_third : token s b ≡ false → head.Bad ≡ header_of kind s
+      module _ {h : Token} (next : Told s w.end h) where
+        pub no_third : token s h.end ≡ false → None ≡ header_of kind s
         unfolding header_of good
-        no_third t = rw (is (magic kind s) m, first.good, first.end, next.good, next.end, t)
+        no_third t = rw (m, first.good, first.end, next.good, next.end, t)
 
-        module _ {top e : ℕ} (final : Told s b top e) where
-          pub no_close : closed s e ≡ false → head.Bad ≡ header_of kind s
+        module _ {top : Token} (final : Told s h.end top) where
+          pub no_close : closed s top.end ≡ false → None ≡ header_of kind s
           unfolding header_of good
-          no_close t = rw (is (magic kind s) m, first.good, first.end, next.good, next.end, final.good, final.end, t)
+          no_close t = rw (m, first.good, first.end, next.good, next.end, final.good, final.end, t)
 
-          pub all_there : closed s e ≡ true → head.Is w h top (e + 1) ≡ header_of kind s
+          pub all_there : closed s top.end ≡ true → Some (record { width = w.value; height = h.value; maximum = top.value; start = top.end + 1 }) ≡ header_of kind s
           unfolding header_of good
-          all_there t = rw (add-one e, is (magic kind s) m, first.good, first.end, first.value, next.good, next.end, next.value, final.good, final.end, final.value, t)
+          all_there t = rw (add-one top.end, m, first.good, first.end, first.value, next.good, next.end, next.value, final.good, final.end, final.value, t)

@@ -1,9 +1,8 @@
 -- Worked headers, as a table: what the definitions give, and what is wanted by the request's words and by the readings of their open places. Assumes nothing.
-use Rattle.std.specs.Prelude.{ℕ, zero, suc, List, [], ◌∷◌, ◌++◌, cond, length}
+use Rattle.std.specs.Prelude.{ℕ, zero, suc, List, [], ◌∷◌, ◌++◌, cond, length, Option, Some, None}
 use Prim.Native.String.{String}
 use Rattle.fields.specs.Words.{bytes}
 use Rattle.pnm.specs.declared.Head.{Head}
-use Rattle.pnm.specs.declared.Head.TheVariants as head
 use Rattle.pnm.specs.Header.{good, header_of}
 
 pub record Row : Type 0 where
@@ -13,9 +12,9 @@ pub record Row : Type 0 where
 -- ---- what the rows are written with
 
 -- the numbers of a header, none of a bad one
-abbrev numbers : Head → List ℕ
-numbers (head.Is w h top start) = w ∷ h ∷ top ∷ start ∷ []
-numbers head.Bad = []
+abbrev numbers : Option Head → List ℕ
+numbers (Some h) = h.width ∷ h.height ∷ h.maximum ∷ h.start ∷ []
+numbers None = []
 
 -- a file of a kind, and the numbers of its header
 abbrev says : ℕ → String → List ℕ → Row

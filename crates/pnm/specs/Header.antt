@@ -1,11 +1,9 @@
 -- The header of a binary Netpbm file: P and its kind's digit, then width, height and maximum, each after a gap, then one white byte. Places are counted from
 -- 0. Every definition has a value on every list; `good` says where they mean something. Assumes nothing.
-use Rattle.std.specs.Prelude.{ℕ, suc, ◌+◌, Bool, true, false, cond, not, ◌&&◌, ◌||◌, List, [], ◌∷◌, leb, ltb, eqb, length, get_or, take, drop}
+use Rattle.std.specs.Prelude.{ℕ, suc, ◌+◌, Bool, true, false, cond, not, ◌&&◌, ◌||◌, List, [], ◌∷◌, leb, ltb, eqb, length, get_or, take, drop, Option, Some, None}
 use Rattle.fields.specs.Decimal.{digit, figured, value_from}
 use Rattle.pnm.specs.declared.Head.{Head}
-use Rattle.pnm.specs.declared.Head.TheVariants as head
 use Rattle.pnm.specs.declared.Token.{Token}
-use Rattle.pnm.specs.declared.Token.TheVariants as token-is
 
 -- CR or LF
 abbrev pub ends : ℕ → Bool
@@ -51,8 +49,8 @@ number s at = value_from 0 (figures s at)
 unfoldable pub token : List ℕ → ℕ → Bool
 token s at = ltb at (from s at) && figured (figures s at)
 
-abbrev pub token_at : List ℕ → ℕ → Token
-token_at s at = cond (token s at) (token-is.Is (number s at) (past s at)) token-is.Bad
+abbrev pub token_at : List ℕ → ℕ → Option Token
+token_at s at = cond (token s at) (Some (record { value = number s at; end = past s at })) None
 
 -- ---- the whole header
 
@@ -76,10 +74,12 @@ unfoldable pub good : ℕ → List ℕ → Bool
 good kind s = magic kind s && token s 2 && token s (second s) && token s (third s) && closed s (last s)
 
 -- width, height, maximum, and where the pixels begin
-unfoldable pub header_of : ℕ → List ℕ → Head
-header_of kind s = cond (good kind s) (head.Is (number s 2) (number s (second s)) (number s (third s)) (suc (last s))) head.Bad
+unfoldable pub header_of : ℕ → List ℕ → Option Head
+header_of kind s =
+    let head : Head = record { width = number s 2; height = number s (second s); maximum = number s (third s); start = suc (last s) } in
+    cond (good kind s) (Some head) None
 
 -- the number that each case says
-abbrev pub head_said : Head → ℕ
-head_said (head.Is w h top start) = 0
-head_said head.Bad = 11
+abbrev pub head_said : Option Head → ℕ
+head_said (Some head) = 0
+head_said None = 11

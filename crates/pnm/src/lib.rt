@@ -4,42 +4,34 @@
 ghost use Rattle.std.specs.Prelude.{◌≡◌, false, ◌+◌, ◌≤◌, length, drop};
 ghost use Rattle.pnm.specs.Header.{ends, white, gap_in, run, header_of, token_at, magic, closed};
 
-use fields::Number;
-
 // A header: width, height, maximum, and where the pixels begin.
 #[derive(Clone, Copy)]
-pub enum Head {
-    Is(usize, usize, usize, usize),
-    Bad,
+pub struct Head {
+    pub width: usize,
+    pub height: usize,
+    pub maximum: usize,
+    pub start: usize,
 }
 
 // A number behind a gap: its value, and where it ends.
 #[derive(Clone, Copy)]
-enum Token {
-    Is(usize, usize),
-    Bad,
+struct Token {
+    value: usize,
+    end: usize,
 }
 
 // Whether a byte ends a comment: CR or LF.
 fn ends_line(b: u8) -> bool
     ensures { result ≡ ends b }
 {
-    match b {
-        b'\r' => true,
-        b'\n' => true,
-        _ => false,
-    }
+    matches!(b, b'\r' | b'\n')
 }
 
 // Whether a byte is white: blank, tab, CR or LF.
 fn is_white(b: u8) -> bool
     ensures { result ≡ white b }
 {
-    match b {
-        b' ' => true,
-        b'\t' => true,
-        _ => ends_line(b),
-    }
+    matches!(b, b' ' | b'\t') || ends_line(b)
 }
 
 // Where the gap that begins at a place ends.
@@ -48,8 +40,7 @@ fn past_gap(s: &[u8], at: usize) -> usize
     ensures { result ≡ at + gap_in false (drop at s.now) }
 {
     let mut inside = false;
-    let mut i = at;
-    while i < s.len() {
+    for i in at..s.len() {
         let b = s[i];
         if inside {
             inside = !ends_line(b);
@@ -58,9 +49,8 @@ fn past_gap(s: &[u8], at: usize) -> usize
         } else if !is_white(b) {
             return i;
         }
-        i += 1;
     }
-    i
+    s.len()
 }
 
 // Where the digits that begin at a place end.
@@ -68,78 +58,61 @@ fn past_digits(s: &[u8], at: usize) -> usize
     requires { at ≤ length s.now }
     ensures { result ≡ at + run (drop at s.now) }
 {
-    let mut i = at;
-    while i < s.len() {
-        match s[i] {
-            b'0'..=b'9' => {}
-            _ => {
-                return i;
-            }
+    for i in at..s.len() {
+        if !s[i].is_ascii_digit() {
+            return i;
         }
-        i += 1;
     }
-    i
+    s.len()
 }
 
 // The number behind the gap that begins at a place.
-fn number_at(s: &[u8], at: usize) -> Token
+fn number_at(s: &[u8], at: usize) -> Option<Token>
     requires { at ≤ length s.now }
     ensures { result ≡ token_at s.now at }
 {
     let start = past_gap(s, at);
     if start == at {
-        return Token::Bad;
+        return None;
     }
     let end = past_digits(s, start);
-    match fields::read_digits(&s[start..end]) {
-        Number::Is(v) => Token::Is(v, end),
-        Number::Bad => Token::Bad,
-    }
+    let value = fields::read_digits(&s[start..end])?;
+    Some(Token { value, end })
 }
 
 // Whether a file begins with P and the byte of its kind.
+#[tactic(auto, unfolding(crate::specs::Header::magic))]
 fn begins(s: &[u8], kind: u8) -> bool
     ensures { result ≡ magic kind s.now }
 {
-    if s.len() < 2 {
-        return false;
-    }
-    if s[0] != b'P' {
-        return false;
-    }
-    s[1] == kind
+    s.len() >= 2 && s[0] == b'P' && s[1] == kind
 }
 
 // Whether a white byte stands at a place.
+#[tactic(auto, unfolding(crate::specs::Header::closed))]
 fn closes(s: &[u8], at: usize) -> bool
     ensures { result ≡ closed s.now at }
 {
-    if at < s.len() {
-        return is_white(s[at]);
-    }
-    false
+    at < s.len() && is_white(s[at])
 }
 
 // The header of a file of a kind: b'6' for PPM, b'5' for PGM.
-pub fn header(s: &[u8], kind: u8) -> Head
+pub fn header(s: &[u8], kind: u8) -> Option<Head>
     ensures { result ≡ header_of kind s.now }
 {
     if !begins(s, kind) {
-        return Head::Bad;
+        return None;
     }
-    match number_at(s, 2) {
-        Token::Is(w, second) => match number_at(s, second) {
-            Token::Is(h, third) => match number_at(s, third) {
-                Token::Is(top, last) => {
-                    if closes(s, last) {
-                        return Head::Is(w, h, top, last + 1);
-                    }
-                    Head::Bad
-                }
-                Token::Bad => Head::Bad,
-            },
-            Token::Bad => Head::Bad,
-        },
-        Token::Bad => Head::Bad,
+    let width = number_at(s, 2)?;
+    let height = number_at(s, width.end)?;
+    let maximum = number_at(s, height.end)?;
+    if !closes(s, maximum.end) {
+        return None;
     }
+    Some(Head {
+        width: width.value,
+        height: height.value,
+        maximum: maximum.value,
+        start: maximum.end + 1,
+    })
 }

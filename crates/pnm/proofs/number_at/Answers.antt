@@ -1,12 +1,12 @@
--- `pnm::number_at` meets its contract, case by case. Assumes nothing.
+-- `pnm::number_at` meets its contract: a gap, then digits that are read. Assumes nothing.
 use mathlib.Core.Path.{◌≡◌, sym, ap, ap₂, ◌∙◌}
 use native.Mathlib.Omega.{arith}
-use Prim.Native.Nat.{ℕ, ◌+◌, ◌-◌, ◌≤◌}
-use lib.ListN.{length, take, drop}
+use Prim.Native.Nat.{ℕ, ◌+◌, ◌-◌}
+use lib.ListN.{take, drop}
+use Rattle.std.specs.Prelude.{option_map}
 use Rattle.fields.specs.Decimal.{digits_of}
-use Rattle.pnm.specs.declared.Token.TheVariants.{Is}
-use Rattle.pnm.specs.Header.{run, from, figures, past}
-use Rattle.pnm.proofs.Tokens.{from_within, past_within, part_is, no_gap, no_digits, with_digits}
+use Rattle.pnm.specs.Header.{run, from, figures, past, token_at}
+use Rattle.pnm.proofs.Tokens.{from_within, past_within, part_is, no_gap, ending, gap_read}
 use Rattle.pnm.proofs.number_at.Goals as goal
 use Rattle.pnm.proofs.number_at.Goals.{After-past_digits-end, After-past_gap-start, After-read_digits}
 
@@ -30,18 +30,10 @@ end c =
     let s = c.args.s.now in
     c.past_digits-end.ensures ∙ ap (λ (n : ℕ). n + run (drop n s)) (start (goal.at.After-past_digits-end c).After-past_gap-start)
 
--- both are in the file, in this order
-edges : (c : After-past_digits-end) → let n = length c.args.s.now in
-    (c.past_gap-start.result ≤ c.past_digits-end.result) × (c.past_digits-end.result ≤ n)
-edges c =
-    let a = c.args in
-    (omega (arith, c.past_digits-end.ensures), omega (arith, end c, past_within a.s.now a.at c.requires))
-
-pub slice_bounds-read_digits-count : goal.slice_bounds-read_digits-count
-slice_bounds-read_digits-count c = omega (arith, edges (goal.at.slice_bounds-read_digits-count c).After-past_digits-end)
-
 pub slice_bounds-read_digits-end : goal.slice_bounds-read_digits-end
-slice_bounds-read_digits-end c = omega (arith, edges (goal.at.slice_bounds-read_digits-end c).After-past_digits-end)
+slice_bounds-read_digits-end c =
+    let a = c.args in
+    omega (arith, end (goal.at.slice_bounds-read_digits-end c).After-past_digits-end, past_within a.s.now a.at c.requires)
 
 -- the digits are read
 read : (c : After-read_digits) → let a = c.args in c.read_digits.result ≡ digits_of (figures a.s.now a.at)
@@ -51,11 +43,16 @@ read c =
     c.read_digits.ensures
     ∙ ap digits_of (ap₂ (λ (m n : ℕ). take (n - m) (drop m s)) (start (goal.at.After-read_digits c).After-past_gap-start) (end (goal.at.After-read_digits c).After-past_digits-end) ∙ part_is s a.at)
 
-pub returns-in-Is : goal.returns-in-Is
-returns-in-Is c =
-    ap (λ (n : ℕ). Is c.in-Is.v n) (end (goal.at.returns-in-Is c).After-past_digits-end)
-    ∙ with_digits _ _ (λ e. c.if-start-at.false (start (goal.at.returns-in-Is c).After-past_gap-start ∙ e)) _ (sym (read (goal.at.returns-in-Is c).After-read_digits) ∙ c.in-Is.is)
+-- what that comes to
+token : (c : After-read_digits) → let a = c.args in token_at a.s.now a.at ≡ option_map (ending c.past_digits-end.result) c.read_digits.result
+token c =
+    let a = c.args in
+    gap_read a.s.now a.at (λ e. c.if-start-at.false (start (goal.at.After-read_digits c).After-past_gap-start ∙ e))
+    ∙ ap₂ (λ n r. option_map (ending n) r) (sym (end (goal.at.After-read_digits c).After-past_digits-end)) (sym (read c))
 
-pub returns-in-Bad : goal.returns-in-Bad
-returns-in-Bad c =
-    no_digits _ _ (λ e. c.if-start-at.false (start (goal.at.returns-in-Bad c).After-past_gap-start ∙ e)) (sym (read (goal.at.returns-in-Bad c).After-read_digits) ∙ c.in-Bad.is)
+pub returns-in_err-value : goal.returns-in_err-value
+returns-in_err-value c =
+    c.from_residual.ensures ∙ sym (token (goal.at.returns-in_err-value c).After-read_digits ∙ ap (option_map (ending c.past_digits-end.result)) c.in_err-value.was)
+
+pub returns : goal.returns
+returns c = sym (token (goal.at.returns c).After-read_digits ∙ ap (option_map (ending c.past_digits-end.result)) c.in_ok-value.was)
