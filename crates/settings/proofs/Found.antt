@@ -5,11 +5,11 @@ use mathlib.Core.List.{List, [], ◌∷◌}
 use Prim.Native.Nat.{ℕ, zero, suc, ◌+◌, ◌<◌}
 use native.Mathlib.Omega.{arith}
 use lib.ListN.{length, get_or}
+use Rattle.std.specs.Prelude.{Option, Some, None}
 use Rattle.fields.specs.Fields.{split, field_of, same}
 use Rattle.fields.proofs.Alike.{same_eq, same_refl}
 use Rattle.fields.proofs.Every.{both}
 use Rattle.fields.proofs.Places.{Stands, field_stands, stands_in}
-use Rattle.settings.specs.declared.First.TheVariants.{Line}
 use Rattle.settings.specs.Texts.{word, kept, good_lines, good, seek, first_with, value_in, value_at}
 use Rattle.settings.proofs.Words.{word_some}
 use Rattle.settings.proofs.Lines.{kept_line}
@@ -26,17 +26,17 @@ module _ (name : List ℕ) (P : List (List ℕ) → ℕ → Type 0)
     number : k ≡ j + d
     holds : P ls d
 
-  walk : (ls : List (List ℕ)) (j k : ℕ) → seek j ls name ≡ Line k → From ls j k
+  walk : (ls : List (List ℕ)) (j k : ℕ) → seek j ls name ≡ Some k → From ls j k
   walk [] j k e = absurd (let z : ◌≡◌ {A = ℕ} 0 1 = cc in let y : ⊥ = omega arith in y)
   walk (l ∷ []) j k e = absurd (let z : ◌≡◌ {A = ℕ} 0 1 = cc in let y : ⊥ = omega arith in y)
   walk (l ∷ m ∷ ls) j k e = go (same (field_of 9 l 1) name) refl e (walk (m ∷ ls) (suc j) k)
     where
-      go : (t : Bool) → same (field_of 9 l 1) name ≡ t → cond t (Line j) (seek (suc j) (m ∷ ls) name) ≡ Line k
-          → (seek (suc j) (m ∷ ls) name ≡ Line k → From (m ∷ ls) (suc j) k) → From (l ∷ m ∷ ls) j k
+      go : (t : Bool) → same (field_of 9 l 1) name ≡ t → cond t (Some j) (seek (suc j) (m ∷ ls) name) ≡ Some k
+          → (seek (suc j) (m ∷ ls) name ≡ Some k → From (m ∷ ls) (suc j) k) → From (l ∷ m ∷ ls) j k
       go true t q next = let n : k ≡ j = cc in record { d = 0; number = omega arith; holds = here l m ls t }
       go false t q next = let p = next q in record { d = suc p.d; number = omega (arith, p.number); holds = on l m ls p.d t p.holds }
 
-  pub found_by : (text : List ℕ) (k : ℕ) → first_with text name ≡ Line k → P (split 10 text) k
+  pub found_by : (text : List ℕ) (k : ℕ) → first_with text name ≡ Some k → P (split 10 text) k
   unfolding first_with
   found_by text k e = let p = walk (split 10 text) 0 k e in subst (P (split 10 text)) (let z : p.d ≡ k = omega (arith, p.number) in z) p.holds
 
@@ -49,7 +49,7 @@ pub record Found (ls : List (List ℕ)) (name : List ℕ) (d : ℕ) : Type 0 whe
   pub named : field_of 9 (get_or ls d []) 1 ≡ name
   pub first : (i : ℕ) → i < d → field_of 9 (get_or ls i []) 1 ≡ name → ⊥
 
-module _ (text name : List ℕ) (g : good text ≡ true) (k : ℕ) (e : first_with text name ≡ Line k) where
+module _ (text name : List ℕ) (g : good text ≡ true) (k : ℕ) (e : first_with text name ≡ Some k) where
   pub first_line : Found (split 10 text) name k
   unfolding good
   first_line = found_by name (λ ls d. good_lines ls ≡ true → Found ls name d) here on text k e g

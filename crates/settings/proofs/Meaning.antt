@@ -6,10 +6,9 @@ use Prim.Native.Nat.{ℕ, suc}
 use native.Mathlib.Omega.{arith}
 use lib.ListN.{length, get_or}
 use denote.Ref.{Bor}
+use Rattle.std.specs.Prelude.{Option, Some, None}
 use Rattle.fields.specs.Fields.{split, field_of, same}
 use Rattle.fields.proofs.Lines.{some_part}
-use Rattle.settings.specs.declared.First.{First}
-use Rattle.settings.specs.declared.First.TheVariants.{Line, None}
 use Rattle.settings.specs.Texts.{word, seek, first_with, value_in}
 use Rattle.settings.specs.Promise.{over, source_of, bytes_of, Setting}
 use Rattle.settings.specs.Written.{Pair, row, written, words, lookup}
@@ -40,18 +39,18 @@ module _ (name : List ℕ) where
     row_test : (l : List ℕ) (t : Bool) → row p ≡ l → same (field_of 9 l 1) name ≡ t → same p.0 name ≡ t
     row_test l t r e = ap (λ (n : List ℕ). same n name) (sym row_name ∙ ap (λ (x : List ℕ). field_of 9 x 1) r) ∙ e
 
-    first_row : (j : ℕ) → seek j (split 10 (written (p ∷ ps))) name ≡ cond (same p.0 name) (Line j) (seek (suc j) (split 10 (written ps)) name)
+    first_row : (j : ℕ) → seek j (split 10 (written (p ∷ ps))) name ≡ cond (same p.0 name) (Some j) (seek (suc j) (split 10 (written ps)) name)
     first_row j =
         ap (λ (ls : List (List ℕ)). seek j ls name) lines
         ∙ seek_first j name (row p) (split 10 (written ps)) (some_part 10 (written ps))
-        ∙ ap (λ (n : List ℕ). cond (same n name) (Line j) (seek (suc j) (split 10 (written ps)) name)) row_name
+        ∙ ap (λ (n : List ℕ). cond (same n name) (Some j) (seek (suc j) (split 10 (written ps)) name)) row_name
 
   -- where no line has the name, no pair has it
   absent : (ps : List Pair) → words ps ≡ true → (j : ℕ) → seek j (split 10 (written ps)) name ≡ None → (qs : List Pair) → lookup (ps ++ qs) name ≡ lookup qs name
   absent [] h j e qs = refl
   absent (p ∷ ps) h j e qs = go (same p.0 name) (sym (first_row p ps h j) ∙ e) (absent ps (w p ps h).1 (suc j))
     where
-      go : (t : Bool) → cond t (Line j) (seek (suc j) (split 10 (written ps)) name) ≡ None
+      go : (t : Bool) → cond t (Some j) (seek (suc j) (split 10 (written ps)) name) ≡ None
           → (seek (suc j) (split 10 (written ps)) name ≡ None → (qs : List Pair) → lookup (ps ++ qs) name ≡ lookup qs name)
           → cond t p.1 (lookup (ps ++ qs) name) ≡ lookup qs name
       go true q on = absurd (let z : ◌≡◌ {A = ℕ} 0 1 = cc in let y : ⊥ = omega arith in y)
@@ -61,7 +60,7 @@ module _ (name : List ℕ) where
   abbrev Valued : List (List ℕ) → ℕ → Type 0
   Valued ls d = (ps : List Pair) → words ps ≡ true → split 10 (written ps) ≡ ls → (qs : List Pair) → field_of 9 (get_or ls d []) 2 ≡ lookup (ps ++ qs) name
 
-  pub line_value : (ps : List Pair) → words ps ≡ true → (k : ℕ) → first_with (written ps) name ≡ Line k → (qs : List Pair) → value_in (written ps) k ≡ lookup (ps ++ qs) name
+  pub line_value : (ps : List Pair) → words ps ≡ true → (k : ℕ) → first_with (written ps) name ≡ Some k → (qs : List Pair) → value_in (written ps) k ≡ lookup (ps ++ qs) name
   unfolding field_of
   line_value ps h k e = found_by name Valued here on (written ps) k e ps h refl
     where
@@ -87,14 +86,14 @@ pub said : (fs hs : List Pair) (name : List ℕ) → words fs ≡ true → words
     → bytes_of (written fs) (written hs) (source_of (written fs) (written hs) name) ≡ lookup (fs ++ hs) name
 said fs hs name f h n = go (first_with (written fs) name) (first_with (written hs) name) refl refl
   where
-    source : (a b : First) → first_with (written fs) name ≡ a → first_with (written hs) name ≡ b → source_of (written fs) (written hs) name ≡ over a b
+    source : (a b : Option ℕ) → first_with (written fs) name ≡ a → first_with (written hs) name ≡ b → source_of (written fs) (written hs) name ≡ over a b
     source a b p q = sym (name_good (written fs) (written hs) name (written_good fs f) (written_good hs h) n a b p q)
 
-    go : (a b : First) → first_with (written fs) name ≡ a → first_with (written hs) name ≡ b
+    go : (a b : Option ℕ) → first_with (written fs) name ≡ a → first_with (written hs) name ≡ b
         → bytes_of (written fs) (written hs) (source_of (written fs) (written hs) name) ≡ lookup (fs ++ hs) name
-    go (Line k) b p q = ap (bytes_of (written fs) (written hs)) (source (Line k) b p q) ∙ line_value name fs f k p hs
-    go None (Line k) p q =
-        ap (bytes_of (written fs) (written hs)) (source None (Line k) p q)
+    go (Some k) b p q = ap (bytes_of (written fs) (written hs)) (source (Some k) b p q) ∙ line_value name fs f k p hs
+    go None (Some k) p q =
+        ap (bytes_of (written fs) (written hs)) (source None (Some k) p q)
         ∙ line_value name hs h k q []
         ∙ ap (λ (ps : List Pair). lookup ps name) (append-nil hs)
         ∙ sym (line_none name fs f p hs)

@@ -5,12 +5,17 @@ use mathlib.Core.List.{List, [], ◌++◌}
 use Prim.Native.Nat.{ℕ}
 use native.Mathlib.Omega.{arith}
 use denote.Ref.{Bor}
+use Rattle.std.specs.Prelude.{Result, Ok, Err}
 use Rattle.fields.specs.Parts.{on}
 use Rattle.fields.proofs.Places.{Stands}
 use Rattle.settings.specs.declared.Source.{Source}
-use Rattle.settings.specs.declared.Source.TheVariants.{Field, House, Refused}
+use Rattle.settings.specs.declared.Source.TheVariants.{Field, House}
+use Rattle.rules.specs.declared.Refusal.{Refusal}
+use Rattle.rules.specs.declared.Refusal.TheVariants.{Layout, Name}
 use Rattle.settings.specs.Texts.{had, first_with, value_in, value_at}
-use Rattle.settings.specs.Promise.{source_of, number, bytes_of, memory_of, refusal_of, Setting}
+use Rattle.settings.specs.Promise.{source_of, bytes_of, memory_of, refusal_of, Setting}
+use Rattle.rules.specs.Answers.{said}
+use Rattle.rules.proofs.Answers.{number_some}
 use Rattle.settings.proofs.Found.{value_stands}
 use Rattle.settings.proofs.Exactly.{Came, of_field, of_house, refused, came}
 
@@ -29,17 +34,17 @@ module _ (field house : Bor (List ℕ)) (name : List ℕ) (r : Bor (List ℕ)) (
   pub field_own : had (first_with field.now name) ≡ true → Own field r
   field_own h = go (source_of field.now house.now name) (came field.now house.now name) p.bytes p.memory
     where
-      go : (s : Source) → Came field.now house.now name s → r.now ≡ bytes_of field.now house.now s → r.ref_ptr ≡ memory_of field house s → Own field r
-      go (Field k) c b m = value_own field k b m
-      go (House k) (of_house g n e) b m = absurd (true≢false (sym h ∙ ap had n))
-      go (Refused n) c b m = record { place = 0; memory = m; stands = record { before = []; after = field.now; from = refl; all = ap (λ (l : List ℕ). l ++ field.now) (sym b) } }
+      go : (s : Result Source Refusal) → Came field.now house.now name s → r.now ≡ bytes_of field.now house.now s → r.ref_ptr ≡ memory_of field house s → Own field r
+      go (Ok (Field k)) c b m = value_own field k b m
+      go (Ok (House k)) (of_house g n e) b m = absurd (true≢false (sym h ∙ ap had n))
+      go (Err e) c b m = record { place = 0; memory = m; stands = record { before = []; after = field.now; from = refl; all = ap (λ (l : List ℕ). l ++ field.now) (sym b) } }
 
   -- where it has not and the call is not refused, the part is the house text's own
   pub house_own : had (first_with field.now name) ≡ false → refusal_of field.now house.now name ≡ 0 → Own house r
   unfolding refusal_of
   house_own h z = go (source_of field.now house.now name) (came field.now house.now name) z p.bytes p.memory
     where
-      go : (s : Source) → Came field.now house.now name s → number s ≡ 0 → r.now ≡ bytes_of field.now house.now s → r.ref_ptr ≡ memory_of field house s → Own house r
-      go (Field k) (of_field g e) z b m = absurd (true≢false (sym (ap had e) ∙ h))
-      go (House k) c z b m = value_own house k b m
-      go (Refused n) (refused l) z b m = absurd (let y : ⊥ = omega arith in y)
+      go : (s : Result Source Refusal) → Came field.now house.now name s → said s ≡ 0 → r.now ≡ bytes_of field.now house.now s → r.ref_ptr ≡ memory_of field house s → Own house r
+      go (Ok (Field k)) (of_field g e) z b m = absurd (true≢false (sym (ap had e) ∙ h))
+      go (Ok (House k)) c z b m = value_own house k b m
+      go (Err e) refused z b m = absurd (number_some e z)

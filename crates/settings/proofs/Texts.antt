@@ -6,13 +6,12 @@ use Prim.Native.Nat.{ℕ, suc, ◌+◌, ◌-◌, ◌≤◌, ◌<◌}
 use native.Mathlib.Numerals.{add-one}
 use native.Mathlib.Omega.{arith}
 use lib.ListN.{length, take, drop, length-drop, drop_of_length-le}
-use Rattle.fields.specs.declared.Line.TheVariants.{Broken}
+use Rattle.std.specs.Prelude.{Option, Some, None}
 use Rattle.fields.specs.Bytes.{line_of}
 use Rattle.fields.specs.Fields.{Ends, split, field_of, same}
 use Rattle.fields.proofs.Split.{rest_first, rest_last}
 use Rattle.fields.proofs.Lines.{some_part, sound, broken, Ended}
 use Rattle.fields.proofs.Places.{join, join_split}
-use Rattle.settings.specs.declared.First.TheVariants.{Line, None}
 use Rattle.settings.specs.Texts.{kept, good_lines, good, seek}
 use Rattle.settings.proofs.Lines.{rough_unkept}
 
@@ -38,7 +37,7 @@ unfolding good
 good_end text at h = ap (λ (s : List ℕ). good_lines (split 10 s)) (drop_of_length-le text h)
 
 -- a line that is broken is not well formed, or not ended
-pub good_broken : (text : List ℕ) (at : ℕ) → at < length text → line_of text at ≡ Broken → good (drop at text) ≡ false
+pub good_broken : (text : List ℕ) (at : ℕ) → at < length text → line_of text at ≡ None → good (drop at text) ≡ false
 unfolding good
 good_broken text at h b = go (split 10 (drop at text)) (ap length (join_split 10 (drop at text))) (broken text at b)
   where
@@ -53,7 +52,7 @@ good_broken text at h b = go (split 10 (drop at text)) (ap length (join_split 10
 
 -- ---- the name looked for
 
-pub seek_first : (k : ℕ) (name l : List ℕ) (ls : List (List ℕ)) → 0 < length ls → seek k (l ∷ ls) name ≡ cond (same (field_of 9 l 1) name) (Line k) (seek (suc k) ls name)
+pub seek_first : (k : ℕ) (name l : List ℕ) (ls : List (List ℕ)) → 0 < length ls → seek k (l ∷ ls) name ≡ cond (same (field_of 9 l 1) name) (Some k) (seek (suc k) ls name)
 seek_first k name l [] h = absurd (let z : ⊥ = omega arith in z)
 seek_first k name l (m ∷ ls) h = refl
 
@@ -64,12 +63,12 @@ module _ (text name : List ℕ) (at r : ℕ) (f : Ends text at 10 r) (k : ℕ) w
 
   module _ (l : r < length text) where
     here : seek k (split 10 (drop at text)) name
-        ≡ cond (same (field_of 9 (take (r - at) (drop at text)) 1) name) (Line k) (seek (suc k) (split 10 (drop (r + 1) text)) name)
+        ≡ cond (same (field_of 9 (take (r - at) (drop at text)) 1) name) (Some k) (seek (suc k) (split 10 (drop (r + 1) text)) name)
     here =
         ap (λ (ls : List (List ℕ)). seek k ls name) (rest_first 10 text at r f l)
         ∙ seek_first k name (take (r - at) (drop at text)) (split 10 (drop (r + 1) text)) (some_part 10 (drop (r + 1) text))
 
-    pub seek_found : same (field_of 9 (take (r - at) (drop at text)) 1) name ≡ true → seek k (split 10 (drop at text)) name ≡ Line k
+    pub seek_found : same (field_of 9 (take (r - at) (drop at text)) 1) name ≡ true → seek k (split 10 (drop at text)) name ≡ Some k
     seek_found e = here ∙ rw e
 
     pub seek_on : same (field_of 9 (take (r - at) (drop at text)) 1) name ≡ false → seek k (split 10 (drop at text)) name ≡ seek (k + 1) (split 10 (drop (r + 1) text)) name

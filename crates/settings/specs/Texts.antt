@@ -1,5 +1,5 @@
 -- A text of settings: what is well formed, and where a name's value stands. A line is given without its line end. Assumes nothing.
-use Rattle.std.specs.Prelude.{Bool, true, false, cond, ◌&&◌, List, [], ◌∷◌, ℕ, suc, ◌+◌}
+use Rattle.std.specs.Prelude.{Bool, true, false, cond, ◌&&◌, List, [], ◌∷◌, ℕ, suc, ◌+◌, Option, Some, None, is_some}
 use Rattle.fields.specs.declared.Class.{Class}
 use Rattle.fields.specs.declared.Class.TheVariants.{Digit, Lower, Tab, LineEnd, Other}
 use Rattle.fields.specs.Words.{bytes}
@@ -7,8 +7,6 @@ use Rattle.fields.specs.Bytes.{class_of}
 use Rattle.fields.specs.Every.{up_to}
 use Rattle.fields.specs.Fields.{split, field_of, field_at, same}
 use Rattle.fields.specs.LaidOut.{laid}
-use Rattle.settings.specs.declared.First.{First}
-use Rattle.settings.specs.declared.First.TheVariants.{Line, None}
 
 -- ---- what is well formed
 
@@ -42,16 +40,15 @@ good text = good_lines (split 10 text)
 
 -- ---- the first line with a name, by its number; the last part is no line
 
-abbrev pub had : First → Bool
-had (Line k) = true
-had None = false
+abbrev pub had : Option ℕ → Bool
+had n = is_some n
 
-abbrev pub seek : ℕ → List (List ℕ) → List ℕ → First
+abbrev pub seek : ℕ → List (List ℕ) → List ℕ → Option ℕ
 seek k [] name = None
 seek k (l ∷ []) name = None
-seek k (l ∷ m ∷ ls) name = cond (same (field_of 9 l 1) name) (Line k) (seek (suc k) (m ∷ ls) name)
+seek k (l ∷ m ∷ ls) name = cond (same (field_of 9 l 1) name) (Some k) (seek (suc k) (m ∷ ls) name)
 
-unfoldable pub first_with : List ℕ → List ℕ → First
+unfoldable pub first_with : List ℕ → List ℕ → Option ℕ
 first_with text name = seek 0 (split 10 text) name
 
 -- the value of line k, and where it begins in the text

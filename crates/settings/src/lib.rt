@@ -4,9 +4,10 @@
 ghost use Rattle.std.specs.Prelude.{◌≡◌, length};
 ghost use Rattle.fields.specs.Fields.{split};
 ghost use Rattle.settings.specs.Texts.{word, kept, good, first_with};
-ghost use Rattle.settings.specs.Promise.{source_of, refusal_of, ValueOf, Setting};
+ghost use Rattle.settings.specs.Promise.{source_of, why_said, refusal_of, ValueOf, Setting};
 
-use fields::{Class, Line};
+use fields::Class;
+use rules::Refusal;
 
 // ---- what is well formed
 
@@ -20,13 +21,11 @@ fn is_word(s: &[u8]) -> bool
     if s.len() > 16 {
         return false;
     }
-    let mut i = 0;
-    while i < s.len() {
-        match fields::class_of(s[i]) {
+    for b in s {
+        match fields::class_of(*b) {
             Class::Digit | Class::Lower => {}
             _ => return false,
         }
-        i += 1;
     }
     true
 }
@@ -55,13 +54,13 @@ fn is_good(text: &[u8]) -> bool
     let mut at = 0;
     while at < text.len() {
         match fields::line_at(text, at) {
-            Line::Ends(end, count) => {
-                if !is_kept(&text[at..end], count) {
+            Some(line) => {
+                if !is_kept(&text[at..line.end], line.fields) {
                     return false;
                 }
-                at = end + 1;
+                at = line.end + 1;
             }
-            Line::Broken => return false,
+            None => return false,
         }
     }
     true
@@ -70,13 +69,7 @@ fn is_good(text: &[u8]) -> bool
 // ---- where a name's value stands
 
 // The first line with a name, by its number from 0.
-#[derive(Clone, Copy)]
-enum First {
-    Line(usize),
-    None,
-}
-
-fn first_with(text: &[u8], name: &[u8]) -> First
+fn first_with(text: &[u8], name: &[u8]) -> Option<usize>
     ensures { result ≡ first_with text.now name.now }
 {
     let mut at = 0;
@@ -84,15 +77,15 @@ fn first_with(text: &[u8], name: &[u8]) -> First
     while at < text.len() {
         let end = fields::end_of(text, at, b'\n');
         if end == text.len() {
-            return First::None;
+            return None;
         }
         if fields::same(fields::field(&text[at..end], 1), name) {
-            return First::Line(k);
+            return Some(k);
         }
         at = end + 1;
         k += 1;
     }
-    First::None
+    None
 }
 
 // The value of line k, in the text's own memory.
@@ -102,32 +95,31 @@ fn value_of<'a>(text: &'a [u8], k: usize) -> &'a [u8]
     fields::field(fields::part(text, b'\n', k), 2)
 }
 
-// What answers: a line of the field text, a line of the house text, or a refusal.
-#[derive(Clone, Copy)]
+// What answers: a line of the field text, or a line of the house text.
+#[derive(Clone, Copy, Debug, PartialEq, Eq)]
 enum Source {
     Field(usize),
     House(usize),
-    Refused(u8),
 }
 
 // All lines are judged before the name.
-fn choose(field: &[u8], house: &[u8], name: &[u8]) -> Source
+fn choose(field: &[u8], house: &[u8], name: &[u8]) -> Result<Source, Refusal>
     ensures { result ≡ source_of field.now house.now name.now }
 {
     if !is_good(field) {
-        return Source::Refused(9);
+        return Err(Refusal::Layout);
     }
     if !is_good(house) {
-        return Source::Refused(9);
+        return Err(Refusal::Layout);
     }
     if !is_word(name) {
-        return Source::Refused(15);
+        return Err(Refusal::Name);
     }
     match first_with(field, name) {
-        First::Line(k) => Source::Field(k),
-        First::None => match first_with(house, name) {
-            First::Line(k) => Source::House(k),
-            First::None => Source::Refused(15),
+        Some(k) => Ok(Source::Field(k)),
+        None => match first_with(house, name) {
+            Some(k) => Ok(Source::House(k)),
+            None => Err(Refusal::Name),
         },
     }
 }
@@ -139,19 +131,15 @@ pub fn setting<'a>(field: &'a [u8], house: &'a [u8], name: &[u8]) -> &'a [u8]
     ensures { Setting field.entry house.entry name.now result }
 {
     match choose(field, house, name) {
-        Source::Field(k) => value_of(field, k),
-        Source::House(k) => value_of(house, k),
-        Source::Refused(_) => &field[0..0],
+        Ok(Source::Field(k)) => value_of(field, k),
+        Ok(Source::House(k)) => value_of(house, k),
+        Err(_) => &field[0..0],
     }
 }
 
-// The number of the refusal of such a call, 0 where it is answered.
-pub fn setting_refusal(field: &[u8], house: &[u8], name: &[u8]) -> u8
-    ensures { result ≡ refusal_of field.now house.now name.now }
+// Why such a call is refused, if it is.
+pub fn setting_refusal(field: &[u8], house: &[u8], name: &[u8]) -> Option<Refusal>
+    ensures { why_said result ≡ refusal_of field.now house.now name.now }
 {
-    match choose(field, house, name) {
-        Source::Field(_) => 0,
-        Source::House(_) => 0,
-        Source::Refused(n) => n,
-    }
+    choose(field, house, name).err()
 }

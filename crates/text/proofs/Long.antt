@@ -14,7 +14,7 @@ use borrow.Author.Tests.{lt-ltb, le-ltb, eq-eqb, leb-true}
 use Rattle.fields.specs.declared.Class.{Class}
 use Rattle.fields.specs.declared.Class.TheVariants.{Digit, Lower, Tab, LineEnd, Other}
 use Rattle.fields.specs.declared.Line.{Line}
-use Rattle.fields.specs.declared.Line.TheVariants.{Ends, Broken}
+use Rattle.std.specs.Prelude.{Option, Some, None}
 use Rattle.fields.specs.Words.{bytes}
 use Rattle.fields.specs.Bytes.{class_of, counted, on_class, scan, line_of}
 use Rattle.fields.specs.Every.{every}
@@ -172,27 +172,27 @@ too_long Px line h = go (laid numeral (bytes "px") 3 line) refl
 
 -- ---- the reader on the beginning of a text
 
-abbrev cut : ℕ → Line → Line
-cut b (Ends e n) = cond (ltb e b) (Ends e n) Broken
-cut b Broken = Broken
+abbrev cut : ℕ → Option Line → Option Line
+cut b (Some x) = cond (ltb x.end b) (Some x) None
+cut b None = None
 
-cut_class : (k : Class) (i m f : ℕ) (rest : Line) → on_class k i f (cut (suc i + m) rest) ≡ cut (i + suc m) (on_class k i f rest)
+cut_class : (k : Class) (i m f : ℕ) (rest : Option Line) → on_class k i f (cut (suc i + m) rest) ≡ cut (i + suc m) (on_class k i f rest)
 cut_class Digit i m f rest = let e : suc i + m ≡ i + suc m = omega arith in ap (λ (b : ℕ). cut b rest) e
 cut_class Lower i m f rest = let e : suc i + m ≡ i + suc m = omega arith in ap (λ (b : ℕ). cut b rest) e
 cut_class Tab i m f rest = let e : suc i + m ≡ i + suc m = omega arith in ap (λ (b : ℕ). cut b rest) e
-cut_class LineEnd i m f rest = let h : i < i + suc m = omega arith in sym (ap (λ (t : Bool). cond t (Ends i f) Broken) (lt-ltb i (i + suc m) h))
+cut_class LineEnd i m f rest = let h : i < i + suc m = omega arith in sym (ap (λ (t : Bool). cond t (Some (record { end = i; fields = f })) None) (lt-ltb i (i + suc m) h))
 cut_class Other i m f rest = refl
 
 -- a line does not end before it begins
-cut_none : (l : List ℕ) (i b f : ℕ) → b ≤ i → cut b (scan l i f) ≡ Broken
+cut_none : (l : List ℕ) (i b f : ℕ) → b ≤ i → cut b (scan l i f) ≡ None
 cut_none [] i b f h = refl
 cut_none (x ∷ xs) i b f h = go (class_of x) (cut_none xs (suc i) b (counted (class_of x) f) (omega arith))
   where
-    go : (k : Class) → cut b (scan xs (suc i) (counted (class_of x) f)) ≡ Broken → cut b (on_class k i f (scan xs (suc i) (counted (class_of x) f))) ≡ Broken
+    go : (k : Class) → cut b (scan xs (suc i) (counted (class_of x) f)) ≡ None → cut b (on_class k i f (scan xs (suc i) (counted (class_of x) f))) ≡ None
     go Digit e = e
     go Lower e = e
     go Tab e = e
-    go LineEnd e = ap (λ (t : Bool). cond t (Ends i f) Broken) (le-ltb i b h)
+    go LineEnd e = ap (λ (t : Bool). cond t (Some (record { end = i; fields = f })) None) (le-ltb i b h)
     go Other e = refl
 
 scan_cut : (l : List ℕ) (m i f : ℕ) → scan (take m l) i f ≡ cut (i + m) (scan l i f)
@@ -202,7 +202,7 @@ scan_cut (x ∷ xs) zero i f = sym (cut_none (x ∷ xs) i (i + 0) f (omega arith
 scan_cut (x ∷ xs) (suc m) i f =
     ap (on_class (class_of x) i f) (scan_cut xs m (suc i) (counted (class_of x) f)) ∙ cut_class (class_of x) i m f (scan xs (suc i) (counted (class_of x) f))
 
-line_cut : (t : List ℕ) (m : ℕ) (r : Line) → line_of t 0 ≡ r → line_of (take m t) 0 ≡ cut m r
+line_cut : (t : List ℕ) (m : ℕ) (r : Option Line) → line_of t 0 ≡ r → line_of (take m t) 0 ≡ cut m r
 unfolding line_of
 line_cut t m r e = let z : 0 + m ≡ m = omega arith in scan_cut t m 0 1 ∙ ap₂ cut z e
 
@@ -253,37 +253,37 @@ module _ (k : Kind) (l : ℕ) (t : List ℕ) (m : ℕ) (room : most k ≤ m) (ks
           let z = too_long k (take e t) (let y : most k ≤ length (take e t) = omega arith in y) in
           absurd (let y : ⊥ = omega arith in y)
 
-  at_line : (r : Line) → line_of t 0 ≡ r → Alike (judge (k ∷ ks) l (split 10 t)) (judge (k ∷ js) l (split 10 (take m t)))
-  at_line Broken q =
+  at_line : (r : Option Line) → line_of t 0 ≡ r → Alike (judge (k ∷ ks) l (split 10 t)) (judge (k ∷ js) l (split 10 (take m t)))
+  at_line None q =
       record {
         n = 9;
         l = l;
         first = judge_broken k ks l (split 10 t) (broken t 0 q);
-        second = judge_broken k js l (split 10 (take m t)) (broken (take m t) 0 (line_cut t m Broken q));
+        second = judge_broken k js l (split 10 (take m t)) (broken (take m t) 0 (line_cut t m None q));
       }
-  at_line (Ends e n) q = go (dec_lt e m)
+  at_line (Some x) q = go (dec_lt x.end m)
     where
-      p : Ended t 0 e n
-      p = ended t 0 e n (omega arith) q
+      p : Ended t 0 x.end x.fields
+      p = ended t 0 x.end x.fields (omega arith) q
 
-      front : split 10 t ≡ take e t ∷ split 10 (drop (e + 1) t)
-      front = p.line ∙ ap (λ (x : ℕ). take x t ∷ split 10 (drop (e + 1) t)) (sub-zero e)
+      front : split 10 t ≡ take x.end t ∷ split 10 (drop (x.end + 1) t)
+      front = p.line ∙ ap (λ (i : ℕ). take i t ∷ split 10 (drop (x.end + 1) t)) (sub-zero x.end)
 
-      go : Dec (e < m) → Alike (judge (k ∷ ks) l (split 10 t)) (judge (k ∷ js) l (split 10 (take m t)))
+      go : Dec (x.end < m) → Alike (judge (k ∷ ks) l (split 10 t)) (judge (k ∷ js) l (split 10 (take m t)))
       go (yes h) =
-          let c : line_of (take m t) 0 ≡ Ends e n = line_cut t m (Ends e n) q ∙ ap (λ (b : Bool). cond b (Ends e n) Broken) (lt-ltb e m h) in
-          let o = ended (take m t) 0 e n (omega arith) c in
-          let s : take (e - 0) (take m t) ≡ take e t = ap (λ (x : ℕ). take x (take m t)) (sub-zero e) ∙ take-take e m t (omega arith) in
-          both_end e p.within front (o.line ∙ ap (λ (x : List ℕ). x ∷ split 10 (drop (e + 1) (take m t))) s) (fault k (take e t)) refl
+          let c : line_of (take m t) 0 ≡ Some x = line_cut t m (Some x) q ∙ ap (λ (b : Bool). cond b (Some x) None) (lt-ltb x.end m h) in
+          let o = ended (take m t) 0 x.end x.fields (omega arith) c in
+          let s : take (x.end - 0) (take m t) ≡ take x.end t = ap (λ (i : ℕ). take i (take m t)) (sub-zero x.end) ∙ take-take x.end m t (omega arith) in
+          both_end x.end p.within front (o.line ∙ ap (λ (w : List ℕ). w ∷ split 10 (drop (x.end + 1) (take m t))) s) (fault k (take x.end t)) refl
       go (no h) =
-          let c : line_of (take m t) 0 ≡ Broken =
-          line_cut t m (Ends e n) q ∙ ap (λ (b : Bool). cond b (Ends e n) Broken) (le-ltb e m (let z : m ≤ e = omega arith in z)) in
-          let z : length (take e t) ≡ e = length-take-le e t (omega (arith, p.within)) in
-          let f = too_long k (take e t) (let y : most k ≤ length (take e t) = omega arith in y) in
+          let c : line_of (take m t) 0 ≡ None =
+          line_cut t m (Some x) q ∙ ap (λ (b : Bool). cond b (Some x) None) (le-ltb x.end m (let z : m ≤ x.end = omega arith in z)) in
+          let z : length (take x.end t) ≡ x.end = length-take-le x.end t (omega (arith, p.within)) in
+          let f = too_long k (take x.end t) (let y : most k ≤ length (take x.end t) = omega arith in y) in
           record {
             n = 9;
             l = l;
-            first = judged ks t e front 9 f;
+            first = judged ks t x.end front 9 f;
             second = judge_broken k js l (split 10 (take m t)) (broken (take m t) 0 c);
           }
 

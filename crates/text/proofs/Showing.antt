@@ -10,21 +10,21 @@ use lib.IntN.{ℤ}
 use lib.ListN.{length, take, replicate}
 use lib.Seq.{length-take-le}
 use borrow.Author.Tests.{eq-eqb, ne_eqb, le-ltb}
+use Rattle.std.specs.Prelude.{Result, Ok, IsOk, is_ok}
+use Rattle.rules.specs.Answers.{or}
 use Rattle.rules.specs.Shape.{Shape, described, room}
 use Rattle.rules.specs.declared.Size.{Size}
 use Rattle.rules.specs.declared.Settings.{Settings}
 use Rattle.rules.specs.declared.Rgb.{Rgb}
 use Rattle.rules.specs.declared.Finding.{Finding}
-use Rattle.rules.specs.declared.Outcome.{Outcome}
-use Rattle.rules.specs.declared.Found.{Found}
-use Rattle.rules.specs.declared.Found.TheVariants.{Light, Refused}
+use Rattle.rules.specs.declared.Refusal.{Refusal}
 use Rattle.rules.specs.Window.{Plane, Shown}
 use Rattle.rules.specs.Light.{light}
 use Rattle.rules.specs.Setup.{handed}
 use Rattle.rules.specs.Buffers.{masked, clear}
 use Rattle.rules.specs.Refusals.{bad_frame, bad_map, bad_mask, bad_work, bad_light, bad_seen, refuse_light, refuse_clear}
-use Rattle.rules.specs.Promise.{found_or, finding, Lent, lent_of, no_light, no_clear, after_clear, Lights, Clears}
-use Rattle.rules.proofs.Answers.{or_done, made}
+use Rattle.rules.specs.Promise.{finding, Lent, lent_of, no_light, no_clear, after_clear, Lights, Clears}
+use Rattle.rules.proofs.Answers.{or_is, or_done, made}
 use Rattle.fields.specs.Written.{Wrote}
 use Rattle.fields.proofs.Written.{then}
 use Rattle.records.specs.Judging.{cells}
@@ -71,17 +71,12 @@ module _ (z : Size) (k : Settings) (mask : List ℕ) (frame entries picture work
 
 -- ---- what the promises come to for a frame that is ready
 
-found_light : (n : ℕ) (a : Finding) (r : Found) → r ≡ found_or n a → n ≡ 0 → r ≡ Light a
-found_light n a r e z = e ∙ sym (or_done Light Refused n a z)
+-- an answer of a call that is not refused has the value
+pub value_is : {A : Type 0} (n : ℕ) (v a : A) (r : Result A Refusal) → r ≡ or n v → n ≡ 0 → r ≡ Ok a → a ≡ v
+value_is n v a r e z q = (or_is n v a (sym q ∙ e)).1
 
-same_light : (a b : Finding) → Light a ≡ Light b → a ≡ b
-same_light a b e = cc
-
-pub the_light : (n : ℕ) (a b : Finding) (r : Found) → r ≡ found_or n b → n ≡ 0 → r ≡ Light a → a ≡ b
-the_light n a b r e z q = same_light a b (sym q ∙ found_light n b r e z)
-
-pub no_refusal : (n m : ℕ) (b : Finding) (r : Found) → r ≡ found_or n b → n ≡ 0 → r ≡ Refused m → ⊥
-no_refusal n m b r e z q = let w : Light b ≡ Refused m = sym (found_light n b r e z) ∙ q in let y : ◌≡◌ {A = ℕ} 0 1 = cc in omega arith
+pub not_refused : {A : Type 0} (n : ℕ) (v : A) (r : Result A Refusal) → r ≡ or n v → n ≡ 0 → IsOk r
+not_refused n v r e z = ap is_ok (e ∙ sym (or_done n v z))
 
 pub all_shown : (z : Size) (k : Settings) (mask frame : List ℕ) (a : Rgb) (entries picture : List ℕ) (n : ℕ) (out mid out' : List ℕ) (at end : ℕ)
     → mask ≡ ones z → a ≡ light (described z) k (masked (described z) mask frame) → n ≡ cells z
@@ -97,30 +92,40 @@ all_shown z k mask frame a entries picture n out mid out' at end em ea en ee ep 
 
 module _ (z : Size) (k : Settings) (mask : List ℕ) (l : Lent) (out : ℕ)
     (ready : Ready z k mask (length l.frame) (length l.map) (length l.picture) (length l.work) out)
-    (r : Found) (work' : List ℤ) (found : Lights z k mask l.frame l.work r work') where
-  lightless : (n : ℕ) → r ≡ Refused n → ⊥
-  lightless n q = no_refusal (no_light z k mask l.frame l.work) n _ r found.answer (accept_light z k mask _ _ _ _ out ready) q
+    (r : Result Finding Refusal) (work' : List ℤ) (found : Lights z k mask l.frame l.work r work') where
+  pub lit : IsOk r
+  lit = not_refused (no_light z k mask l.frame l.work) _ r found.answer (accept_light z k mask _ _ _ _ out ready)
 
-  pub never : {A : Type 0} (n : ℕ) → r ≡ Refused n → A
-  never n q = absurd (lightless n q)
+  module _ (f : Finding) (q : r ≡ Ok f) (kept : length work' ≡ length l.work) where
+    light_is : f ≡ finding z k mask l.frame
+    light_is = value_is (no_light z k mask l.frame l.work) _ f r found.answer (accept_light z k mask _ _ _ _ out ready) q
 
-  pub finished : (f : Finding) (b : Outcome) (m : Lent) (before mid after : List ℕ) (at end : ℕ) → r ≡ Light f → length work' ≡ length l.work
-      → Clears (handed z k f.light mask) (lent_of l.frame l.map l.picture work') b m → length m.map ≡ length l.map
-      → Wrote (light_line f.light) before 0 mid at → Wrote (outs (length m.map) m.map m.picture) mid at after end
-      → Wrote (shown z k l.frame) before 0 after end
-  finished f b m before mid after at end q kept cleared same w v =
-      let a = f.light in
-      let ef : f ≡ finding z k mask l.frame =
-      the_light (no_light z k mask l.frame l.work) f _ r found.answer (accept_light z k mask _ _ _ _ out ready) q in
-      let ea : a ≡ light (described z) k (masked (described z) mask l.frame) = ap (λ (x : Finding). x.light) ef in
-      let good : bad_light a ≡ false = ap bad_light ea ∙ light_good (described z) k (masked (described z) mask l.frame) in
-      let ready' : Ready z k mask (length l.frame) (length l.map) (length l.picture) (length work') out =
-      subst (λ (n : ℕ). Ready z k mask (length l.frame) (length l.map) (length l.picture) n out) (sym kept) ready in
-      let p = handed z k a mask in
-      let old = lent_of l.frame l.map l.picture work' in
-      let state : m ≡ after_clear p old = cleared.after ∙ sym (made (no_clear p old) (after_clear p old) old (accept_clear z k mask _ _ _ _ out ready' a good)) in
-      all_shown z k mask l.frame a m.map m.picture (length m.map) before mid after at end ready.mask_is ea (same ∙ ready.entries_is)
-      (ap (λ (x : Lent). x.map) state) (ap (λ (x : Lent). x.picture) state) w v
+    light_by : f.light ≡ light (described z) k (masked (described z) mask l.frame)
+    light_by = ap (λ (x : Finding). x.light) light_is
+
+    -- the buffers as Clear is lent them, and that it does not refuse them
+    abbrev lent : Lent
+    lent = lent_of l.frame l.map l.picture work'
+
+    accepted : no_clear (handed z k f.light mask) lent ≡ 0
+    accepted =
+        let good : bad_light f.light ≡ false = ap bad_light light_by ∙ light_good (described z) k (masked (described z) mask l.frame) in
+        let ready' : Ready z k mask (length l.frame) (length l.map) (length l.picture) (length work') out =
+        subst (λ (n : ℕ). Ready z k mask (length l.frame) (length l.map) (length l.picture) n out) (sym kept) ready in
+        accept_clear z k mask _ _ _ _ out ready' f.light good
+
+    pub cleared_done : (b : Result ℕ Refusal) (m : Lent) → Clears (handed z k f.light mask) lent b m → IsOk b
+    cleared_done b m c = not_refused (no_clear (handed z k f.light mask) lent) _ b c.answer accepted
+
+    pub finished : (b : Result ℕ Refusal) (m : Lent) (before mid after : List ℕ) (at end : ℕ)
+        → Clears (handed z k f.light mask) lent b m → length m.map ≡ length l.map
+        → Wrote (light_line f.light) before 0 mid at → Wrote (outs (length m.map) m.map m.picture) mid at after end
+        → Wrote (shown z k l.frame) before 0 after end
+    finished b m before mid after at end cleared same w v =
+        let p = handed z k f.light mask in
+        let state : m ≡ after_clear p lent = cleared.after ∙ sym (made (no_clear p lent) (after_clear p lent) lent accepted) in
+        all_shown z k mask l.frame f.light m.map m.picture (length m.map) before mid after at end ready.mask_is light_by (same ∙ ready.entries_is)
+        (ap (λ (x : Lent). x.map) state) (ap (λ (x : Lent). x.picture) state) w v
 
 -- ---- an accepted frame, with memory for the largest, is ready
 

@@ -2,22 +2,24 @@
 #![tactic(auto)]
 
 ghost use Rattle.std.specs.Prelude.{◌≡◌, ◌+◌, ◌*◌, ◌≤◌, length, take};
+ghost use Rattle.rules.specs.Answers.{number};
 ghost use Rattle.fields.specs.Written.{Wrote};
 ghost use Rattle.records.specs.Judging.{cells};
 ghost use Rattle.text.specs.Text.{out_line, outs, light_line, bad_line, shown, reply};
 ghost use Rattle.text.specs.Ready.{Accepted, Ready};
 
-use records::{Reader, read_frame};
-use rules::{Found, Rgb, Settings, Size};
+use records::{Fault, Reader, read_frame};
+use rules::{Refusal, Rgb, Settings, Size};
 
 // ---- writing
 
 // The one line of a refusal.
-fn put_bad(out: &mut [u8], number: u8, line: usize) -> usize
+fn put_bad(out: &mut [u8], fault: Fault) -> usize
     requires { 29 ≤ length out.old }
-    ensures { Wrote (bad_line number line) out.old 0 out.new result }
+    ensures { Wrote (bad_line (number fault.refusal) fault.line) out.old 0 out.new result }
 {
-    let numbers = [number as u64, line as u64];
+    let number = u8::from(fault.refusal);
+    let numbers = [u64::from(number), fault.line as u64];
     fields::put_row(out, 0, b"bad", &numbers)
 }
 
@@ -25,7 +27,7 @@ fn put_light(out: &mut [u8], a: Rgb) -> usize
     requires { 18 ≤ length out.old }
     ensures { Wrote (light_line a) out.old 0 out.new result × (result ≤ 18) }
 {
-    let numbers = [a.r as u64, a.g as u64, a.b as u64];
+    let numbers = [u64::from(a.r), u64::from(a.g), u64::from(a.b)];
     fields::put_row(out, 0, b"light", &numbers)
 }
 
@@ -34,7 +36,7 @@ fn put_out(out: &mut [u8], at: usize, t: u16, r: u8, g: u8, b: u8) -> usize
     requires { at + 22 ≤ length out.old }
     ensures { Wrote (out_line t r g b) out.old at out.new result × (result ≤ at + 22) }
 {
-    let numbers = [t as u64, r as u64, g as u64, b as u64];
+    let numbers = [u64::from(t), u64::from(r), u64::from(g), u64::from(b)];
     fields::put_row(out, at, b"out", &numbers)
 }
 
@@ -44,8 +46,7 @@ fn put_outs(out: &mut [u8], at: usize, map: &[u16], picture: &[u8]) -> usize
     ensures { Wrote (outs (length map.now) map.now picture.now) out.old at out.new result }
 {
     let mut next = at;
-    let mut p = 0;
-    while p < map.len() {
+    for p in 0..map.len() {
         let i = 3 * p;
         next = put_out(
             out,
@@ -55,14 +56,13 @@ fn put_outs(out: &mut [u8], at: usize, map: &[u16], picture: &[u8]) -> usize
             picture[i + 1],
             picture[i + 2],
         );
-        p += 1;
     }
     next
 }
 
 // ---- the whole
 
-// The light is found, then used, and both are written.
+// The light is found, then used, and both are written. A frame that is ready is refused by neither call.
 fn show(
     z: Size,
     k: Settings,
@@ -76,14 +76,10 @@ fn show(
     requires { Ready z k mask.now (length frame.now) (length map.old) (length picture.old) (length work.old) (length out.old) }
     ensures { Wrote (shown z k frame.now) out.old 0 out.new result }
 {
-    match haze::light(z, k, mask, frame, work) {
-        Found::Light(f) => {
-            haze::clear(z, k, f.light, mask, frame, map, picture, work);
-            let at = put_light(out, f.light);
-            put_outs(out, at, &map[..], &picture[..])
-        }
-        Found::Refused(_) => 0,
-    }
+    let found = haze::light(z, k, mask, frame, work).unwrap();
+    haze::clear(z, k, found.light, mask, frame, map, picture, work).unwrap();
+    let at = put_light(out, found.light);
+    put_outs(out, at, &map[..], &picture[..])
 }
 
 // The answer to an accepted frame, of which all is seen, with memory of its own for the map, the picture and the work area.
@@ -114,20 +110,18 @@ pub fn answer(input: &[u8], out: &mut [u8; 12690]) -> usize
     ensures { Wrote (reply input.now) out.old 0 out.new result }
 {
     let mut frame = [0u8; 1728];
-    let start = Reader {
-        at: 0,
-        line: 1,
-        fault: 0,
-    };
-    let read = read_frame(input, start, &mut frame);
-    let next = read.next;
-    if next.fault > 0 {
-        return put_bad(out, next.fault, next.line);
+    let start = Reader { at: 0, line: 1 };
+    match read_frame(input, start, &mut frame) {
+        Ok(read) => {
+            if read.next.at < input.len() {
+                let fault = Fault {
+                    refusal: Refusal::Layout,
+                    line: read.next.line,
+                };
+                return put_bad(out, fault);
+            }
+            clear_frame(read.z, read.k, &frame, out)
+        }
+        Err(fault) => put_bad(out, fault),
     }
-    if next.at < input.len() {
-        return put_bad(out, 9, next.line);
-    }
-    let z = read.z;
-    let k = read.k;
-    clear_frame(z, k, &frame, out)
 }

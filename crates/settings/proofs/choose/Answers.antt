@@ -26,14 +26,14 @@ pub returns-then-not-is_word : goal.returns-then-not-is_word
 returns-then-not-is_word c =
     name_bad _ _ _ (field_good (goal.at.returns-then-not-is_word c).Else-not-is_good) (house_good (goal.at.returns-then-not-is_word c).Else-not-is_good-2) (sym c.is_word.ensures ∙ c.if-not-is_word.true)
 
-pub returns-in-Line : goal.returns-in-Line
-returns-in-Line c =
-    name_good _ _ _ (field_good (goal.at.returns-in-Line c).Else-not-is_good) (house_good (goal.at.returns-in-Line c).Else-not-is_good-2) (name_word (goal.at.returns-in-Line c).Else-not-is_word) _ _ (sym c.first_with.ensures ∙ c.in-Line.is) refl
+pub returns-in-Some : goal.returns-in-Some
+returns-in-Some c =
+    name_good _ _ _ (field_good (goal.at.returns-in-Some c).Else-not-is_good) (house_good (goal.at.returns-in-Some c).Else-not-is_good-2) (name_word (goal.at.returns-in-Some c).Else-not-is_word) _ _ (sym c.first_with.ensures ∙ c.in-Some.is) refl
 
-pub returns-in-Line-first_with : goal.returns-in-Line-first_with
-returns-in-Line-first_with c =
-    name_good _ _ _ (field_good (goal.at.returns-in-Line-first_with c).Else-not-is_good) (house_good (goal.at.returns-in-Line-first_with c).Else-not-is_good-2) (name_word (goal.at.returns-in-Line-first_with c).Else-not-is_word) _ _ (sym c.first_with.ensures ∙ c.in-None.is)
-    (sym c.first_with-in-None.ensures ∙ c.in-Line-first_with.is)
+pub returns-in-Some-first_with : goal.returns-in-Some-first_with
+returns-in-Some-first_with c =
+    name_good _ _ _ (field_good (goal.at.returns-in-Some-first_with c).Else-not-is_good) (house_good (goal.at.returns-in-Some-first_with c).Else-not-is_good-2) (name_word (goal.at.returns-in-Some-first_with c).Else-not-is_word) _ _ (sym c.first_with.ensures ∙ c.in-None.is)
+    (sym c.first_with-in-None.ensures ∙ c.in-Some-first_with.is)
 
 pub returns-in-None-first_with : goal.returns-in-None-first_with
 returns-in-None-first_with c =

@@ -19,8 +19,8 @@ returns-then-s-eq0 c = sym (word_empty c.args.s.now c.if-s-eq0.true)
 pub returns-then-s-gt16 : goal.returns-then-s-gt16
 returns-then-s-gt16 c = sym (word_long c.args.s.now c.if-s-gt16.true)
 
-pub loop-i-init : goal.loop-i-init
-loop-i-init c = (omega arith, omega arith, refl)
+pub loop-b-init : goal.loop-b-init
+loop-b-init c = (omega arith, omega arith, refl)
 
 -- the classes that `_` takes
 other : (k : Class) → (k ≡ Digit → ⊥) → (k ≡ Lower → ⊥) → OneOf (2 ∷ 3 ∷ 4 ∷ []) (tag_of the_type k)
@@ -32,22 +32,22 @@ other Other d l = search rules
 
 pub returns-in_default : goal.returns-in_default
 returns-in_default c =
-    let l = c.loop-i in
+    let l = c.loop-b in
     let s = c.args.s.now in
     let k = c.class_of in
-    let off = every_off letter s l.i 0 c.loop-i-test.true (sym (ap in_word k.ensures) ∙ no_letter k.result (other k.result c.in_default.not-Digit c.in_default.not-Lower)) in
+    let off = every_off letter s l.b-index 0 c.loop-b-test.true (sym (ap in_word k.ensures) ∙ no_letter k.result (other k.result c.in_default.not-Digit c.in_default.not-Lower)) in
     sym (word_is s l.invariant.0 l.invariant.1 ∙ l.invariant.2 ∙ off)
 
-pub loop-i-preserved : goal.loop-i-preserved
-loop-i-preserved c =
-    let l = c.loop-i in
+pub loop-b-preserved : goal.loop-b-preserved
+loop-b-preserved c =
+    let l = c.loop-b in
     let s = c.args.s.now in
     let k = c.class_of in
-    let on = every_on letter s l.i 0 c.loop-i-test.true (sym (ap in_word k.ensures) ∙ is_letter k.result (search rules)) in
+    let on = every_on letter s l.b-index 0 c.loop-b-test.true (sym (ap in_word k.ensures) ∙ is_letter k.result (search rules)) in
     (l.invariant.0, l.invariant.1, l.invariant.2 ∙ on)
 
 pub returns : goal.returns
 returns c =
-    let l = c.loop-i in
+    let l = c.loop-b in
     let s = c.args.s.now in
-    sym (word_is s l.invariant.0 l.invariant.1 ∙ l.invariant.2 ∙ every_end letter s l.i c.loop-i-test.false)
+    sym (word_is s l.invariant.0 l.invariant.1 ∙ l.invariant.2 ∙ every_end letter s l.b-index c.loop-b-test.false)

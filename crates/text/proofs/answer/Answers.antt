@@ -7,28 +7,25 @@ use Rattle.fields.specs.Written.{Wrote}
 use Rattle.text.proofs.Answering.{reply_fault, reply_more, reply_good, accepted}
 use Rattle.text.proofs.answer.Goals as goal
 
-pub returns-then-next-gt0 : goal.returns-then-next-gt0
-returns-then-next-gt0 c =
-    let r = c.read_frame-read in
+pub returns-then-read-input : goal.returns-then-read-input
+returns-then-read-input c =
+    let r = c.read_frame in
     subst (λ (l : List ℕ). Wrote l c.args.out.now 0 c.put_bad.new.out c.put_bad.result)
-    (reply_fault c.args.input.now r.result r.new.frame r.ensures c.if-next-gt0.true) c.put_bad.ensures
-
-pub returns-then-next-input : goal.returns-then-next-input
-returns-then-next-input c =
-    let r = c.read_frame-read in
-    let e : r.result.next.fault ≡ 0 = omega (arith, c.if-next-gt0.false) in
-    subst (λ (l : List ℕ). Wrote l c.args.out.now 0 c.put_bad-then-next-input.new.out c.put_bad-then-next-input.result)
-    (reply_more c.args.input.now r.result r.new.frame r.ensures e c.if-next-input.true) c.put_bad-then-next-input.ensures
+    (reply_more c.args.input.now r.result r.new.frame r.ensures c.in-Ok.read c.in-Ok.is c.if-read-input.true) c.put_bad.ensures
 
 pub clear_frame-requires : goal.clear_frame-requires
 clear_frame-requires c =
-    let r = c.read_frame-read in
-    let e : r.result.next.fault ≡ 0 = omega (arith, c.if-next-gt0.false) in
-    accepted c.args.input.now r.result r.new.frame r.ensures e _ (omega (arith, r.auto.frame)) (omega arith)
+    let r = c.read_frame in
+    accepted c.args.input.now r.result r.new.frame r.ensures c.in-Ok.read c.in-Ok.is _ (omega (arith, r.auto.frame)) (omega arith)
 
-pub returns : goal.returns
-returns c =
-    let r = c.read_frame-read in
-    let e : r.result.next.fault ≡ 0 = omega (arith, c.if-next-gt0.false) in
+pub returns-else-read-input : goal.returns-else-read-input
+returns-else-read-input c =
+    let r = c.read_frame in
     subst (λ (l : List ℕ). Wrote l c.args.out.now 0 c.clear_frame.new.out c.clear_frame.result)
-    (reply_good c.args.input.now r.result r.new.frame r.ensures e c.if-next-input.false) c.clear_frame.ensures
+    (reply_good c.args.input.now r.result r.new.frame r.ensures c.in-Ok.read c.in-Ok.is c.if-read-input.false) c.clear_frame.ensures
+
+pub returns-in-Err : goal.returns-in-Err
+returns-in-Err c =
+    let r = c.read_frame in
+    subst (λ (l : List ℕ). Wrote l c.args.out.now 0 c.put_bad-in-Err.new.out c.put_bad-in-Err.result)
+    (reply_fault c.args.input.now r.result r.new.frame r.ensures c.in-Err.fault c.in-Err.is) c.put_bad-in-Err.ensures

@@ -10,38 +10,8 @@ pub loop-p-init : goal.loop-p-init
 loop-p-init c =
     listed_none (out_at c.args.map.now c.args.picture.now) (length c.args.map.now) c.args.at c.args.out.now c.requires.0
 
-pub overflow_mul-i : goal.overflow_mul-i
-overflow_mul-i c = omega (arith, c.loop-p-test.true, c.well_formed)
-
-pub offset_bounds-map-p : goal.offset_bounds-map-p
-offset_bounds-map-p c = omega (arith, c.loop-p-test.true, c.well_formed)
-
-pub bounds-map-p : goal.bounds-map-p
-bounds-map-p c = omega (arith, c.loop-p-test.true)
-
-pub bounds-picture-i : goal.bounds-picture-i
-bounds-picture-i c = omega (arith, c.loop-p-test.true, c.requires)
-
-pub overflow_add-i : goal.overflow_add-i
-overflow_add-i c = omega (arith, c.loop-p-test.true, c.well_formed)
-
-pub bounds-picture-i-in-loop-p : goal.bounds-picture-i-in-loop-p
-bounds-picture-i-in-loop-p c = omega (arith, c.loop-p-test.true, c.requires)
-
-pub overflow_add-i-in-loop-p : goal.overflow_add-i-in-loop-p
-overflow_add-i-in-loop-p c = omega (arith, c.loop-p-test.true, c.well_formed)
-
-pub bounds-picture-i-in-loop-p-2 : goal.bounds-picture-i-in-loop-p-2
-bounds-picture-i-in-loop-p-2 c = omega (arith, c.loop-p-test.true, c.requires)
-
 pub put_out-next-requires : goal.put_out-next-requires
 put_out-next-requires c = omega (arith, c.loop-p.invariant, c.loop-p-test.true)
-
-pub overflow_add-p : goal.overflow_add-p
-overflow_add-p c = omega (arith, c.loop-p-test.true, c.well_formed)
-
-pub loop-p-smaller : goal.loop-p-smaller
-loop-p-smaller c = omega (arith, c.loop-p-test.true)
 
 pub loop-p-preserved : goal.loop-p-preserved
 loop-p-preserved c =
