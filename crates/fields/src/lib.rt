@@ -73,7 +73,7 @@ pub fn after(s: &[u8], end: usize) -> usize
     requires { end ≤ length s.now }
     ensures { result ≡ min (end + 1) (length s.now) }
 {
-    if end < s.len() { end + 1 } else { end }
+    (end + 1).min(s.len())
 }
 
 // The n-th part of s between bytes sep, counted from 0, and an empty part at the beginning where there is none.
@@ -137,6 +137,7 @@ pub fn read_number(s: &[u8]) -> Option<usize>
 }
 
 // Writes a number in decimal from at on, and answers where it ends.
+// The digits go into lent bytes from the first on, and the last is known first: so all the others are written by a call, and no text is made on a heap.
 #[tactic(auto, using(crate::proofs::Written::digits_written))]
 pub fn put_number(out: &mut [u8], at: usize, n: u64) -> usize
     requires { at + length (decimal n) ≤ length out.old }
