@@ -1,10 +1,8 @@
 -- The laws that the proofs of the functions cite.
 pub mod Steps
 pub mod Every
-pub mod Classes
 pub mod Split
 pub mod Alike
-pub mod Numerals
 pub mod Written
 pub mod Lines
 pub mod LaidOut

@@ -100,3 +100,6 @@ module _ (sep : ℕ) where
 
         pub place_none : r ≡ length s → begins at (split sep (drop at s)) (n - k) ≡ 0
         place_none h = ap₂ (begins at) (rest_last h) next
+
+-- the same, for a loop over the parts
+pub ruleset parts_on = (part_here, part_next, part_none, place_here, place_next, place_none)

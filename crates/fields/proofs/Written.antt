@@ -65,9 +65,6 @@ module _ (ns : List ℕ) (i : ℕ) where
       let e : length (a ++ columns (drop (i + 1) ns)) ≡ length a + length (columns (drop (i + 1) ns)) = length-append a (columns (drop (i + 1) ns)) in
       ap length (columns_next h) ∙ (let z : length (a ++ columns (drop (i + 1) ns)) ≡ 1 + length (decimal (get_or ns i 0)) + length (columns (drop (i + 1) ns)) = omega arith in z)
 
-  pub columns_done : length ns ≤ i → columns (drop i ns) ≡ 10 ∷ []
-  columns_done h = ap columns (drop_of_length-le ns h)
-
   -- one number more, written
   pub columns_more : (out out' : List ℕ) (at next : ℕ) → i < length ns → Wrote (9 ∷ decimal (get_or ns i 0)) out at out' next
       → sets out at (columns (drop i ns)) ≡ sets out' next (columns (drop (i + 1) ns))
@@ -112,6 +109,9 @@ length_one n h = ap length (digit_one n h)
 
 pub length_more : (n : ℕ) → 10 ≤ n → length (decimal n) ≡ length (decimal (n / 10)) + 1
 length_more n h = ap length (digit_more n h) ∙ length-append (decimal (n / 10)) ((48 + n % 10) ∷ [])
+
+-- where the digits go
+pub ruleset digits_written = (one, digit_one, length_one, length_more)
 
 -- a number below ten has one digit, and ten times the bound is one digit more
 pub most : (d n : ℕ) → n < 10 ^ suc d → length (decimal n) ≤ suc d

@@ -38,6 +38,7 @@ pub struct Line {
 }
 
 // The line that begins at a place, if it keeps the layout. Each byte's class decides the next step: go on, count a field, end the line, or break off.
+#[tactic(auto, unfolding(crate::specs::Bytes::line_of))]
 pub fn line_at(s: &[u8], at: usize) -> Option<Line>
     requires { at ≤ length s.now }
     ensures { result ≡ line_of s.now at }
@@ -72,10 +73,11 @@ pub fn after(s: &[u8], end: usize) -> usize
     requires { end ≤ length s.now }
     ensures { result ≡ min (end + 1) (length s.now) }
 {
-    if end < s.len() { end + 1 } else { end }
+    (end + 1).min(s.len())
 }
 
 // The n-th part of s between bytes sep, counted from 0, and an empty part at the beginning where there is none.
+#[tactic(auto, using(crate::proofs::Split::parts_on), unfolding(crate::specs::Fields::field_at))]
 pub fn part<'a>(s: &'a [u8], sep: u8, n: usize) -> &'a [u8]
     ensures { FieldOf sep s.entry n result }
 {
@@ -106,6 +108,7 @@ pub fn same(a: &[u8], b: &[u8]) -> bool
 }
 
 // The number that a text says: decimal, 1 to 6 digits, no sign; zeros may lead.
+#[tactic(auto, unfolding(crate::specs::Decimal::digits_of, crate::specs::Decimal::figured))]
 pub fn read_digits(s: &[u8]) -> Option<usize>
     ensures { result ≡ digits_of s.now }
 {
@@ -123,6 +126,7 @@ pub fn read_digits(s: &[u8]) -> Option<usize>
 }
 
 // Such a number with no leading zero but 0 itself.
+#[tactic(auto, unfolding(crate::specs::Decimal::number_of, crate::specs::Decimal::numeral, crate::specs::Decimal::digits_of))]
 pub fn read_number(s: &[u8]) -> Option<usize>
     ensures { result ≡ number_of s.now }
 {
@@ -133,6 +137,8 @@ pub fn read_number(s: &[u8]) -> Option<usize>
 }
 
 // Writes a number in decimal from at on, and answers where it ends.
+// The digits go into lent bytes from the first on, and the last is known first: so all the others are written by a call, and no text is made on a heap.
+#[tactic(auto, using(crate::proofs::Written::digits_written))]
 pub fn put_number(out: &mut [u8], at: usize, n: u64) -> usize
     requires { at + length (decimal n) ≤ length out.old }
     ensures { Wrote (decimal n) out.old at out.new result }
@@ -147,6 +153,7 @@ pub fn put_number(out: &mut [u8], at: usize, n: u64) -> usize
 }
 
 // Writes the bytes of a word from at on, and answers where they end.
+#[tactic(auto, using(crate::proofs::Written::written_over))]
 pub fn put_word(out: &mut [u8], at: usize, word: &[u8]) -> usize
     requires { at + length word.now ≤ length out.old }
     ensures { Wrote word.now out.old at out.new result }
@@ -166,6 +173,7 @@ fn put_column(out: &mut [u8], at: usize, n: u64) -> usize
 }
 
 // Writes each number after a tab, then the line end.
+#[tactic(auto, using(crate::proofs::Written::columns_length, crate::proofs::Written::columns_more))]
 fn put_columns(out: &mut [u8], at: usize, numbers: &[u64]) -> usize
     requires { at + length (columns numbers.now) ≤ length out.old }
     ensures { Wrote (columns numbers.now) out.old at out.new result }

@@ -2,11 +2,11 @@
 use mathlib.Core.Path.{◌≡◌, refl, ap}
 use mathlib.Core.Bool.{Bool, true, false, cond, not, ◌&&◌, ◌||◌}
 use mathlib.Core.List.{List, [], ◌∷◌}
-use Prim.Native.Nat.{ℕ, suc, ◌+◌, ◌-◌, ◌≤◌, ◌<◌}
+use Prim.Native.Nat.{ℕ, suc, ◌+◌, ◌≤◌, ◌<◌}
 use native.Mathlib.Numerals.{add-one}
 use native.Mathlib.Omega.{arith}
 use lib.Dec.{leb, eqb}
-use lib.ListN.{length, get_or, take, drop, length-drop}
+use lib.ListN.{length, get_or, drop, length-drop}
 use borrow.Author.Tests.{lt-ltb, le-ltb, leb-true}
 use Rattle.fields.proofs.Every.{both}
 use Rattle.fields.specs.Decimal.{digit, figured, digits_of, value_from}
@@ -45,11 +45,6 @@ abbrev pub ending : ℕ → ℕ → Token
 ending end value = record { value = value; end = end }
 
 module _ (s : List ℕ) (at : ℕ) where
-  -- the part of the list that holds its digits
-  pub part_is : take (past s at - from s at) (drop (from s at) s) ≡ figures s at
-  unfolding past figures
-  part_is = ap (λ (n : ℕ). take n (drop (from s at) s)) (let z : from s at + run (drop (from s at) s) - from s at ≡ run (drop (from s at) s) = omega arith in z)
-
   pub no_gap : from s at ≡ at → None ≡ token_at s at
   unfolding token
   no_gap e = rw (le-ltb at (from s at) (omega arith))
@@ -84,15 +79,15 @@ module _ (s : List ℕ) (at : ℕ) where
           record { good = g; value = ap (λ (x : Token). x.value) same; end = ap (λ (x : Token). x.end) same }
       go false g h = absurd (let z : ◌≡◌ {A = ℕ} 0 1 = cc in let y : ⊥ = omega arith in y)
 
-  pub told_within : {t : Token} → at ≤ length s → Told t → t.end ≤ length s
-  told_within h t = omega (arith, t.end, past_within s at h)
-
   pub told_bad : token_at s at ≡ None → token s at ≡ false
   told_bad q = go (token s at) q
     where
       go : (b : Bool) → cond b (Some (ending (past s at) (number s at))) None ≡ None → b ≡ false
       go true h = absurd (let z : ◌≡◌ {A = ℕ} 0 1 = cc in let y : ⊥ = omega arith in y)
       go false h = refl
+
+-- what a reader of a number needs
+pub ruleset reads = (from_within, past_within, no_gap, gap_read)
 
 -- ---- the whole header
 
@@ -105,7 +100,7 @@ module _ (kind : ℕ) (s : List ℕ) where
     -- there is room for the magic
     pub two : 2 ≤ length s
     unfolding magic
-    two = leb-true 2 (length s) (both (leb 2 (length s)) _ (both (leb 2 (length s) && eqb (get_or s 0 0) 80) _ (m)).0).0
+    two = leb-true 2 (length s) (both (leb 2 (length s)) _ (both (leb 2 (length s) && eqb (get_or s 0 0) 80) _ m).0).0
 
     pub no_first : token s 2 ≡ false → None ≡ header_of kind s
     unfolding header_of good
@@ -129,3 +124,6 @@ module _ (kind : ℕ) (s : List ℕ) where
           pub all_there : closed s top.end ≡ true → Some (record { width = w.value; height = h.value; maximum = top.value; start = top.end + 1 }) ≡ header_of kind s
           unfolding header_of good
           all_there t = rw (add-one top.end, m, first.good, first.end, first.value, next.good, next.end, next.value, final.good, final.end, final.value, t)
+
+-- what a reader of a header needs
+pub ruleset tells = (told, told_bad, two, no_magic, no_first, no_second, no_third, no_close, all_there)

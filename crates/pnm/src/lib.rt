@@ -1,7 +1,7 @@
 // The header of a binary Netpbm file, the same for every kind: PPM, PGM and others.
 #![tactic(auto)]
 
-ghost use Rattle.std.specs.Prelude.{◌≡◌, false, ◌+◌, ◌≤◌, length, drop};
+ghost use Rattle.std.specs.Prelude.{◌≡◌, false, ◌+◌, ◌≤◌, length, drop, IfSome};
 ghost use Rattle.pnm.specs.Header.{ends, white, gap_in, run, header_of, token_at, magic, closed};
 
 // A header: width, height, maximum, and where the pixels begin.
@@ -67,9 +67,11 @@ fn past_digits(s: &[u8], at: usize) -> usize
 }
 
 // The number behind the gap that begins at a place.
+#[tactic(auto, using(crate::proofs::Tokens::reads), unfolding(crate::specs::Header::from, crate::specs::Header::past, crate::specs::Header::figures))]
 fn number_at(s: &[u8], at: usize) -> Option<Token>
     requires { at ≤ length s.now }
-    ensures { result ≡ token_at s.now at }
+    ensures token { result ≡ token_at s.now at }
+    ensures within { IfSome result (λ t. t.end ≤ length s.now) }
 {
     let start = past_gap(s, at);
     if start == at {
@@ -97,6 +99,7 @@ fn closes(s: &[u8], at: usize) -> bool
 }
 
 // The header of a file of a kind: b'6' for PPM, b'5' for PGM.
+#[tactic(auto, using(crate::proofs::Tokens::tells))]
 pub fn header(s: &[u8], kind: u8) -> Option<Head>
     ensures { result ≡ header_of kind s.now }
 {
