@@ -1,12 +1,12 @@
 -- `bands::figure` meets its contract: the part of the map between two rows is the band, and each value is one division. Assumes nothing.
-use mathlib.Core.Path.{ap, ◌∙◌}
+use mathlib.Core.Path.{refl, ap, ◌∙◌}
 use mathlib.Core.List.{List}
 use Prim.Native.Nat.{ℕ, ◌-◌, ◌*◌, ◌≤◌}
 use native.Mathlib.Omega.{arith}
 use lib.ListN.{length, take, drop}
 use Rattle.rules.specs.Window.{total, least}
 use Rattle.rules.specs.Picture.{figure_of, figure as figure_in}
-use Rattle.bands.proofs.Laws.{Ends, ends, part_le, quotient_of}
+use Rattle.bands.proofs.Laws.{Ends, ends, part_le, quotient_of, sum_is, least_is}
 use Rattle.bands.proofs.figure.Goals as goal
 use Rattle.bands.proofs.figure.Goals.{Start}
 
@@ -27,32 +27,11 @@ module _ (s : Start) where
   few : length part ≤ 262144
   few = part_le s.args.map.now count start (omega (arith, s.requires.0.area, s.requires.1))
 
-pub overflow_mul-start : goal.overflow_mul-start
-overflow_mul-start c = omega (arith, edges (goal.at.overflow_mul-start c).Start)
-
-pub overflow_mul-end : goal.overflow_mul-end
-overflow_mul-end c = omega (arith, edges (goal.at.overflow_mul-end c).Start)
-
-pub offset_bounds-map-start : goal.offset_bounds-map-start
-offset_bounds-map-start c = omega (arith, edges (goal.at.offset_bounds-map-start c).Start)
-
-pub slice_bounds-band-count : goal.slice_bounds-band-count
-slice_bounds-band-count c = omega (arith, edges (goal.at.slice_bounds-band-count c).Start)
-
-pub sum_of-requires : goal.sum_of-requires
-sum_of-requires c = few (goal.at.sum_of-requires c).Start
-
-pub overflow_mul-band : goal.overflow_mul-band
-overflow_mul-band c = omega (arith, few (goal.at.overflow_mul-band c).Start)
-
-pub divided-mean-requires : goal.divided-mean-requires
-divided-mean-requires c = (omega (arith, c.sum_of.ensures.1), omega (arith, few (goal.at.divided-mean-requires c).Start))
-
 pub returns : goal.returns
 unfolding figure_in
 returns c =
     let l = part (goal.at.returns c).Start in
-    let mean = quotient_of _ (total (λ t. t) l) (10000 * length l) c.divided-mean.ensures (omega (arith, c.sum_of.ensures.0)) (omega arith) in
-    let low = quotient_of _ (least 10000 l) 10000 c.divided-least.ensures (omega (arith, c.least_of.ensures.0)) (omega arith) in
+    let mean = quotient_of _ (total (λ t. t) l) (10000 * length l) c.divided-mean.ensures (omega (arith, c.sum_of.ensures.value, sum_is l)) (omega arith) in
+    let low = quotient_of _ (least 10000 l) 10000 c.divided-least.ensures (omega (arith, c.least_of.ensures, least_is l)) refl in
     (λ i. record { mean = mean i; least = low i })
     ∙ ap (λ (n : ℕ). figure_of (take n (drop (start (goal.at.returns c).Start) c.args.map.now))) (edges (goal.at.returns c).Start).count
