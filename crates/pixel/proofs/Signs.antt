@@ -12,6 +12,8 @@ use lib.Dec.{T}
 use mir.Syntax.{w32, w64}
 use mir.Val.{SFits, Fits, to_z, of_z}
 use mir.Facts.{to_z-of_z}
+use Rattle.std.specs.Int.{int_max, int_min}
+use Rattle.std.proofs.lemmas.Int.{ints, clamps}
 use Rattle.rules.specs.Transmission.{held}
 use Rattle.rules.proofs.Integers.{pos_sub, dif_eq, mag_nat_abs}
 
@@ -86,10 +88,6 @@ rd32_is z f = to_z-of_z f
 pub fits32 : (z : ℤ) → nat_abs z < 2 ^ 31 → SFits w32 z
 fits32 z h = record { sfits = omega (arith, mag_nat_abs z) }
 
-pub held_is : (v : ℤ) (s t : Bool) → lt_z v (pos 0) ≡ s → lt_z (pos 255) (cond s (pos 0) v) ≡ t → cond t (pos 255) (cond s (pos 0) v) ≡ pos (held 255 v)
-held_is (pos n) true t e f = absurd (not-suc-le-zero (ltb-true n 0 e))
-held_is (pos n) false true e f = let top : 255 ≡ min n 255 = omega (arith, ltb-true 255 n f) in ap pos top
-held_is (pos n) false false e f = let same : n ≡ min n 255 = omega (arith, ltb-false 255 n f) in ap pos same
-held_is (negsuc n) true true e f = absurd (not-suc-le-zero (ltb-true 255 0 f))
-held_is (negsuc n) true false e f = refl
-held_is (negsuc n) false t e f = absurd (true≢false e)
+pub clamp_is : (v : ℤ) → int_max (pos 0) (int_min v (pos 255)) ≡ pos (held 255 v)
+clamp_is (pos n) = omega (arith, ints, clamps)
+clamp_is (negsuc n) = omega (arith, ints, clamps)

@@ -14,7 +14,6 @@ ghost use Rattle.rules.specs.Buffers.{pixel_at};
 ghost use Rattle.pixel.specs.Moments.{Moments};
 ghost use Rattle.pixel.specs.Over.{Over, parts, ScaledBy, Under};
 
-use numbers::{lesser_u32, lesser_u64};
 use rules::Rgb;
 
 // ---- what is read of a pixel
@@ -36,14 +35,14 @@ pub fn pixel_at(frame: &[u8], p: usize) -> Rgb
 pub fn darkest_of(i: Rgb) -> u64
     ensures { result ≡ darkest i }
 {
-    lesser_u64(i.r as u64, lesser_u64(i.g as u64, i.b as u64))
+    u64::from(i.r.min(i.g.min(i.b)))
 }
 
 // The guide: R+G+B.
 pub fn guide_of(i: Rgb) -> u64
     ensures { (result ≡ guide i) × (result ≤ 765) }
 {
-    (i.r as u64) + (i.g as u64) + (i.b as u64)
+    u64::from(i.r) + u64::from(i.g) + u64::from(i.b)
 }
 
 // ---- from light to transmission
@@ -61,7 +60,7 @@ pub fn light_scale(a: u8) -> u32
     requires { 0 < a }
     ensures { Over 10000 a 65536 result }
 {
-    655360000 / (a as u32) + 1
+    655360000 / u32::from(a) + 1
 }
 
 // A byte over the light of its channel, and the light's scale.
@@ -78,8 +77,8 @@ fn over_light(i: u8, a: u8, k: u32) -> Fraction
     ensures { Under result.i result.a result.k × (ratio result.i result.a ≡ ratio i a) }
 {
     Fraction {
-        i: i as u32,
-        a: a as u32,
+        i: u32::from(i),
+        a: u32::from(a),
         k,
     }
 }
@@ -89,7 +88,7 @@ fn ratio_of(i: u32, a: u32, k: u32) -> u64
     requires { Under i a k }
     ensures { result ≡ ratio i a }
 {
-    (lesser_u32(i, a) * k / 65536) as u64
+    u64::from(i.min(a) * k / 65536)
 }
 
 // The product of two bytes.
@@ -145,7 +144,7 @@ pub fn coarse_of(omega: u64, d: u64) -> u64
     requires { (omega ≤ 10000) × (d ≤ 10000) }
     ensures { result ≡ coarse_of omega d }
 {
-    (10000 - (omega as u32) * (d as u32) / 10000) as u64
+    u64::from(10000 - (omega as u32) * (d as u32) / 10000)
 }
 
 // How far p is from 0, and below 0 from -1.
@@ -222,10 +221,7 @@ pub fn offset(n: u64, inverse: u64, sg: u64, st: u64, a: i64) -> i64
 fn hold(v: i64, top: u64) -> u64
     ensures { result ≡ held top v }
 {
-    if v < 0 {
-        return 0;
-    }
-    lesser_u64(v as u64, top)
+    (v.max(0) as u64).min(top)
 }
 
 // 1024 n times the refined value of a pixel, before it is rounded and held: from the sums of slopes and offsets over its window, and its own guide.
@@ -248,33 +244,19 @@ pub fn refined(n: u64, inverse: u64, sa: i64, sb: i64, g: u64) -> u64
 
 // ---- from transmission to picture, and back
 
-// The larger of two numbers.
-fn larger(x: u32, y: u32) -> u32
-    ensures { result ≡ max x y }
-{
-    if x < y { y } else { x }
-}
-
 // 10,000 / t in parts of which 2^23 make 1, a little more: the division that a pixel's three channels share. Below 39 it is as at 39, where one
 // level of distance from the light already becomes 256.
 pub fn scale(t: u32) -> u32
     ensures { Over 10000 (max t 39) 8388608 result × (0 < result) }
 {
-    (83886080000 / (larger(t, 39) as u64)) as u32 + 1
-}
-
-// How far two bytes are apart.
-fn apart(a: u8, i: u8) -> u8
-    ensures { result ≡ (a - i) + (i - a) }
-{
-    if i < a { a - i } else { i - a }
+    (83886080000 / u64::from(t.max(39))) as u32 + 1
 }
 
 // How far a byte that is d from the light is from it without the haze, to the nearest level. What is past 255 may be any number past it.
 fn stretched(d: u8, scale: u32) -> i32
     ensures { (result ≡ pos ((d * scale + 4194304) / 8388608)) × (nat_abs result ≤ 131072) }
 {
-    (((d as u64) * (scale as u64) + 4194304) / 8388608) as i32
+    ((u64::from(d) * u64::from(scale) + 4194304) / 8388608) as i32
 }
 
 // The light a with q taken from it, or added to it.
@@ -283,32 +265,18 @@ fn moved(below: bool, a: u8, q: i32) -> i32
     ensures { result ≡ cond below (pos a -ℤ q) (pos a +ℤ q) }
 {
     if below {
-        (a as i32) - q
+        i32::from(a) - q
     } else {
-        (a as i32) + q
+        i32::from(a) + q
     }
-}
-
-// A number that is at least 0.
-fn lowest(v: i32) -> i32
-    ensures { result ≡ cond (lt_z v (pos 0)) (pos 0) v }
-{
-    if v < 0 { 0 } else { v }
-}
-
-// A number that is at most 255.
-fn highest(v: i32) -> i32
-    ensures { result ≡ cond (lt_z (pos 255) v) (pos 255) v }
-{
-    if 255 < v { 255 } else { v }
 }
 
 // A byte without the haze: byte i under light a, by the scale of the transmission. Nothing in it is a branch once it is compiled.
 pub fn recovered(a: u8, i: u8, scale: u32) -> u8
     ensures { (t : ℕ) → 0 < t → t ≤ 10000 → Over 10000 (max t 39) 8388608 scale → result ≡ recover a i t }
 {
-    let q = stretched(apart(a, i), scale);
-    highest(lowest(moved(i < a, a, q))) as u8
+    let q = stretched(a.abs_diff(i), scale);
+    moved(i < a, a, q).clamp(0, 255) as u8
 }
 
 // A byte with haze: clean byte j under light a at transmission t.
@@ -317,5 +285,5 @@ pub fn hazed(a: u8, j: u8, t: u64) -> u8
     ensures { result ≡ haze a j t }
 {
     let part = t as u32;
-    (((j as u32) * part + (a as u32) * (10000 - part) + 5000) / 10000) as u8
+    ((u32::from(j) * part + u32::from(a) * (10000 - part) + 5000) / 10000) as u8
 }

@@ -44,22 +44,11 @@ digit c = rw (q_is (goal.at.After-over c).After-over-q) at c.over.ensures ∙ is
 pub over-q-requires : goal.over-q-requires
 over-q-requires c = fits (goal.at.over-q-requires c).Start (y (goal.at.over-q-requires c).Start / 131072) (omega (arith, high_lt (goal.at.over-q-requires c).Start))
 
-pub overflow_mul-low : goal.overflow_mul-low
-overflow_mul-low c = rw (q_is (goal.at.overflow_mul-low c).After-over-q) (omega (arith, left_le (y (goal.at.overflow_mul-low c).Start) (n (goal.at.overflow_mul-low c).Start) c.requires.0))
-
 pub overflow_sub-low : goal.overflow_sub-low
 overflow_sub-low c = rw (q_is (goal.at.overflow_sub-low c).After-over-q) (left_le (y (goal.at.overflow_sub-low c).Start) (n (goal.at.overflow_sub-low c).Start) c.requires.0)
 
-pub overflow_mul-result : goal.overflow_mul-result
-overflow_mul-result c = omega (arith, q_is (goal.at.overflow_mul-result c).After-over-q, q_lt (goal.at.overflow_mul-result c).Start)
-
 pub over-requires : goal.over-requires
 over-requires c = rw (q_is (goal.at.over-requires c).After-over-q) (fits (goal.at.over-requires c).Start (low (goal.at.over-requires c).Start) (low_le (goal.at.over-requires c).Start))
-
-pub overflow_add-result : goal.overflow_add-result
-overflow_add-result c =
-    let small = (div-lt_iff_lt-mul {x = low (goal.at.overflow_add-result c).Start} {y = 131072} c.requires.0).1 (low_lt (y (goal.at.overflow_add-result c).Start) (n (goal.at.overflow_add-result c).Start) c.requires.0) in
-    omega (arith, q_is (goal.at.overflow_add-result c).After-over-q, q_lt (goal.at.overflow_add-result c).Start, digit (goal.at.overflow_add-result c).After-over, small)
 
 pub returns : goal.returns
 returns c = rw (digit (goal.at.returns c).After-over, q_is (goal.at.returns c).After-over-q) (long (y (goal.at.returns c).Start) (n (goal.at.returns c).Start) c.requires.0)

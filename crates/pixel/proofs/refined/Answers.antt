@@ -39,13 +39,6 @@ v_is c =
 v_le : (c : After-hold-v) → c.hold-v.result ≤ 10240000 * n (goal.at.After-hold-v c).Start
 v_le c = rw (v_is c) (held_le (10240000 * n (goal.at.After-hold-v c).Start) (sum (goal.at.After-hold-v c).Start))
 
-pub unheld-requires : goal.unheld-requires
-unheld-requires c =
-    let few : n (goal.at.unheld-requires c).Start ≤ 14641 = c.requires.1 in
-    let a : nat_abs (sa (goal.at.unheld-requires c).Start) ≤ 37480960000 = omega (arith, c.requires.4, few) in
-    let b : nat_abs (sb (goal.at.unheld-requires c).Start) ≤ 31441308090368 = omega (arith, c.requires.5, few) in
-    (c.requires.3, rw (rd_is (sa (goal.at.unheld-requires c).Start) (omega (arith, a))) a, rw (rd_is (sb (goal.at.unheld-requires c).Start) (omega (arith, b))) b)
-
 pub over-requires : goal.over-requires
 over-requires c =
     inverse_fits (n (goal.at.over-requires c).Start) c.args.inverse c.requires.0 c.requires.1 c.requires.2 (c.hold-v.result / 1024) (omega (arith, v_le (goal.at.over-requires c).After-hold-v))

@@ -2,9 +2,6 @@
 use Rattle.pixel.proofs.Fractions.{smaller_is}
 use Rattle.pixel.proofs.smaller.Goals as goal
 
-pub is_smaller-second-requires : goal.is_smaller-second-requires
-is_smaller-second-requires c = (c.requires.1, c.requires.0)
-
 pub returns : goal.returns
 returns c =
     let x = c.args.x in
