@@ -62,4 +62,4 @@ overflow_mul-p-3 c = k_fits (goal.at.overflow_mul-p-3 c).Start
 pub returns : goal.returns
 returns c =
     let r = back c.floor_div.result (record { sfits = c.floor_div.type_inv }) ∙ c.floor_div.ensures ∙ exact (goal.at.returns c).Start in
-    record { exact = r; small = rw r (slope_small (n (goal.at.returns c).Start) (sg (goal.at.returns c).Start) (st (goal.at.returns c).Start) (sgg (goal.at.returns c).Start) (sgt (goal.at.returns c).Start) (e (goal.at.returns c).Start) (z (goal.at.returns c).Start)) }
+    record { exact = r; small = rw r (slope_small _ _ _ _ _ _ (z (goal.at.returns c).Start)) }
