@@ -14,13 +14,11 @@ pub fn add(z: Size, a: Rgb, clean: &[u8], map: &[u16], out: &mut [u8])
     requires by_index { (p : ℕ) → get_or map.now p 0 ≤ 10000 }
     ensures { out.new ≡ hazed_frame (described z) a clean.now map.now }
 {
-    let mut p = 0;
-    while p < map.len() {
-        let t = map[p] as u64;
+    for (p, sample) in map.iter().enumerate() {
+        let t = u64::from(*sample);
         let q = 3 * p;
         out[q] = hazed(a.r, clean[q], t);
         out[q + 1] = hazed(a.g, clean[q + 1], t);
         out[q + 2] = hazed(a.b, clean[q + 2], t);
-        p += 1;
     }
 }

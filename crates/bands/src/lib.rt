@@ -1,13 +1,11 @@
 // The band figure: mean and least transmission of a band of rows as two doubles.
 #![tactic(auto)]
 
-ghost use Rattle.std.specs.Prelude.{◌≡◌, ◌*◌, ◌^◌, ◌≤◌, ◌<◌, length};
+ghost use Rattle.std.specs.Prelude.{◌≡◌, ◌*◌, ◌^◌, ◌≤◌, ◌<◌, length, sum, fold, min};
 ghost use Rattle.rules.specs.Shape.{described};
 ghost use Rattle.rules.specs.Good.{GoodSize};
-ghost use Rattle.rules.specs.Window.{least, total};
 ghost use Rattle.rules.specs.Picture.{quotient, figure as figure_in};
 
-use numbers::lesser_u16;
 use rules::{Figure, Size};
 
 // Both numbers go into doubles without loss; one division.
@@ -21,28 +19,17 @@ fn divided(n: u64, d: u64) -> f64
 // The sum of the entries.
 fn sum_of(band: &[u16]) -> u64
     requires { length band.now ≤ 262144 }
-    ensures { (result ≡ total (λ t. t) band.now) × (result ≤ 2 ^ 53) }
+    ensures value { result ≡ sum band.now }
+    ensures small { result ≤ 2 ^ 53 }
 {
-    let mut sum = 0;
-    let mut i = 0;
-    while i < band.len() {
-        sum += band[i] as u64;
-        i += 1;
-    }
-    sum
+    band.iter().map(|t| u64::from(*t)).sum()
 }
 
 // The smallest entry, of entries to 10,000.
 fn least_of(band: &[u16]) -> u16
-    ensures { (result ≡ least 10000 band.now) × (result ≤ 10000) }
+    ensures { result ≡ fold min 10000 band.now }
 {
-    let mut low = 10000;
-    let mut i = 0;
-    while i < band.len() {
-        low = lesser_u16(low, band[i]);
-        i += 1;
-    }
-    low
+    band.iter().fold(10000, |low, t| low.min(*t))
 }
 
 // The figure of the rows from .. to, the last left out, of a band that is not refused.
@@ -55,6 +42,6 @@ pub fn figure(z: Size, map: &[u16], from: usize, to: usize) -> Figure
     let end = to * w;
     let band = &map[start..end];
     let mean = divided(sum_of(band), 10000 * (band.len() as u64));
-    let least = divided(least_of(band) as u64, 10000);
+    let least = divided(u64::from(least_of(band)), 10000);
     Figure { mean, least }
 }

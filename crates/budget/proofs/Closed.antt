@@ -4,18 +4,16 @@ use mathlib.Core.Path.{◌≡◌, sym, ◌∙◌}
 use mathlib.Core.Bool.{cond}
 use mathlib.Core.Logic.{⊎_elim}
 use Prim.Native.Nat.{ℕ, zero, suc, ◌+◌, ◌-◌, ◌*◌, ◌/◌, ◌≤◌, ◌<◌, min}
-use native.Mathlib.Nat.{add-mul, one-mul, zero-mul}
+use native.Mathlib.Nat.{zero-mul, suc-mul}
 use native.Mathlib.Omega.{arith}
 use borrow.Author.Tests.{lt-ltb, le-ltb}
 use lib.Dec.{ltb}
 use Rattle.rules.specs.Count.{lo, hi, crossing, tally, comparisons, samples}
 use Rattle.rules.proofs.Count.{inner, inner_is, inner_none, inner_step, samples_length, tally_none, tally_suc, tally_zeros, tally_split, tally_ones}
 use Rattle.windows.specs.Blocks.{start}
-use Rattle.windows.proofs.Cuts.{lt_or_ge, start_le, lt_start, start_zero, start_same, start_next}
+use Rattle.std.proofs.lemmas.Bool.{cases_lt}
+use Rattle.windows.proofs.Cuts.{start_le, lt_start, start_zero, start_same, start_next}
 use Rattle.windows.proofs.Crossings.{crossing_is}
-
-suc_mul : (m k : ℕ) → suc m * k ≡ m * k + k
-suc_mul m k = let z : suc m ≡ m + 1 = omega arith in rw z (omega (arith, add-mul m 1 k, one-mul k))
 
 -- ---- in blocks
 
@@ -27,12 +25,12 @@ inner_blocks k zero r h =
     let e : inner k (r + 1 - k) ≡ 0 = rw none (inner_none k) in
     rw n (omega (arith, inner_step k (r + 1) (omega arith) (omega arith), zero-mul k))
 inner_blocks k (suc m) r h =
-    let n : suc m * k + (r + 1) ≡ m * k + (r + 1) + k = omega (arith, suc_mul m k) in
+    let n : suc m * k + (r + 1) ≡ m * k + (r + 1) + k = omega (arith, suc-mul m k) in
     let l : m * k + (r + 1) + k - k ≡ m * k + (r + 1) = omega arith in
     let e : inner k (m * k + (r + 1) + k) ≡ 2 * (k - 1) + inner k (m * k + (r + 1)) =
     inner_step k (m * k + (r + 1) + k) (omega arith) (omega arith) ∙ rw l (omega arith)
     in
-    rw n (omega (arith, suc_mul m k, inner_blocks k m r h))
+    rw n (omega (arith, suc-mul m k, inner_blocks k m r h))
 
 inner_closed : (k m n : ℕ) → m * k < n → n ≤ m * k + k → inner k n + 2 * m ≡ 2 * (n - 1)
 inner_closed k m n l u =
@@ -71,14 +69,14 @@ module _ (k s n : ℕ) (odd : k ≡ 2 * s + 1) where
 
   begins : (m : ℕ) → start k (m * k) ≡ m * k
   begins zero = rw zero-mul (start_zero k (omega arith))
-  begins (suc m) = rw (suc_mul m k) (start_next k (omega arith) (m * k) (begins m))
+  begins (suc m) = rw (suc-mul m k) (start_next k (omega arith) (m * k) (begins m))
 
   two_before : (m : ℕ) → m * k < n → two (m * k) + m ≡ m * k
   unfolding two
   two_before zero h = rw zero-mul (omega (arith, tally_none (λ i. crossing s n (s + i))))
   two_before (suc m) h =
-      let z : m * k + 1 + 2 * s ≡ suc m * k = omega (arith, suc_mul m k) in
-      rw (sym z) (omega (arith, suc_mul m k, two_within (m * k) (2 * s) (begins m) (omega (arith, suc_mul m k)) (omega arith), two_before m (omega (arith, suc_mul m k))))
+      let z : m * k + 1 + 2 * s ≡ suc m * k = omega (arith, suc-mul m k) in
+      rw (sym z) (omega (arith, suc-mul m k, two_within (m * k) (2 * s) (begins m) (omega (arith, suc-mul m k)) (omega arith), two_before m (omega (arith, suc-mul m k))))
 
   module _ (m : ℕ) (last : m * k < n) (end : n ≤ m * k + k) where
     -- none from the last block's start on
@@ -93,20 +91,20 @@ module _ (k s n : ℕ) (odd : k ≡ 2 * s + 1) where
         rw (sym z) (tally_split f (m * k) (n - s - m * k) ∙ omega arith)
 
     two_closed : two (n - s) + m ≡ min (m * k) (n - s)
-    two_closed = ⊎_elim (λ (h : n - s < m * k). early m h last end) (λ (h : m * k ≤ n - s). omega (arith, two_late h, two_before m last)) (lt_or_ge (n - s) (m * k))
+    two_closed = ⊎_elim (λ (h : n - s < m * k). early m h last end) (λ (h : m * k ≤ n - s). omega (arith, two_late h, two_before m last)) (cases_lt (n - s) (m * k))
       where
         -- where the last window begins in the block before the last
         early : (j : ℕ) → n - s < j * k → j * k < n → n ≤ j * k + k → two (n - s) + j ≡ min (j * k) (n - s)
         early zero h l u = absurd (omega (arith, zero-mul k))
         early (suc j) h l u =
-            let w : suc j * k ≡ j * k + k = suc_mul j k in
+            let w : suc j * k ≡ j * k + k = suc-mul j k in
             let d : j * k + 1 + (n - s - (j * k + 1)) ≡ n - s = omega arith in
             let e : two (n - s) ≡ two (j * k) + (n - s - (j * k + 1)) = rw d at (two_within (j * k) (n - s - (j * k + 1)) (begins j) (omega arith) (omega arith)) in
             omega (arith, two_before j (omega arith))
 
     crossings_closed : tally (crossing s n) n + m ≡ min (m * k) (n - s)
     unfolding two
-    crossings_closed = ⊎_elim long short (lt_or_ge s n)
+    crossings_closed = ⊎_elim long short (cases_lt s n)
       where
         first : (i : ℕ) → i < s → i < n → crossing s n i ≡ 0
         first i u v = within 0 i (start_zero k (omega arith)) v (omega arith) (omega arith)

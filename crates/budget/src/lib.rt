@@ -6,18 +6,18 @@ ghost use Rattle.rules.specs.Promise.{Budgets};
 ghost use Rattle.std.specs.Prelude.{◌≡◌, ◌≤◌, ◌<◌};
 
 use judge::wrong_size;
-use numbers::{less, lesser_usize};
 use rules::Size;
 
 // For a line of n samples at radius s. Of the blocks of k = 2s + 1 the last perhaps is shorter; `full` are the others. Each sample but the first of its block is
 // compared twice. A window lies in two blocks where it begins in a block before the last, but not at the block's first sample; the last window begins at n - s - 1.
+#[tactic(auto, using(crate::proofs::Closed::counted))]
 fn line(n: usize, s: usize) -> usize
     requires { (0 < n) × (n ≤ 1024) × (s ≤ 30) }
     ensures { result ≡ comparisons s (samples n) }
 {
     let k = 2 * s + 1;
     let full = (n - 1) / k;
-    let two = lesser_usize(full * k, less(n, s)) - full;
+    let two = (full * k).min(n.saturating_sub(s)) - full;
     2 * (n - 1 - full) + two
 }
 
@@ -25,10 +25,7 @@ fn line(n: usize, s: usize) -> usize
 pub fn comparisons(z: Size, s: usize) -> u64
     ensures { Budgets z s result }
 {
-    if wrong_size(z) {
-        return 0;
-    }
-    if 30 < s {
+    if wrong_size(z) || 30 < s {
         return 0;
     }
     (z.h * line(z.w, s) + z.w * line(z.h, s)) as u64

@@ -2,7 +2,7 @@
 use mathlib.Core.Path.{◌≡◌, refl, ap, ◌∙◌}
 use mathlib.Core.Bool.{Bool, true, false, cond}
 use Prim.Native.Nat.{ℕ, ◌*◌, ◌/◌, ◌≤◌, ◌<◌, min}
-use native.Mathlib.Nat.{mul-le-mul, mul-le-mul_left, mul-le-mul_right, le_of_mul-le-mul_left}
+use native.Mathlib.Nat.{mul-le-mul, mul-le-mul_left, le_of_mul-le-mul_left}
 use native.Mathlib.Omega.{arith}
 use Rattle.rules.specs.Transmission.{ratio}
 use Rattle.rules.proofs.Quotients.{ratio_is}
@@ -27,11 +27,6 @@ smaller_is false i a k j b m x y second first = (x, omega (arith, ratio_le i a j
 -- ---- the ratio by the scale of the light: a byte above the light is as the light, which is the cap
 
 module _ (i a k : ℕ) (u : Under i a k) where
-  pub ratio_fits : min i a * k ≤ 655360255
-  ratio_fits =
-      let low : min i a ≤ a = omega arith in
-      omega (arith, mul-le-mul_right k low, u.scale.most, u.light)
-
   pub ratio_scaled : min i a * k / 65536 ≡ ratio i a
   ratio_scaled =
       let low : min i a ≤ 255 = omega (arith, u.byte) in

@@ -1,46 +1,24 @@
--- Signed numbers by way of naturals: what is not below 0 fits where a natural number stands; how far a number is from 0, or below 0 from -1, divides as
--- the number does, rounded down; and so does the number with as much added as makes it natural. And what an i32 needs. Assumes nothing.
-use mathlib.Core.Path.{◌≡◌, refl, sym, ap, ◌∙◌}
-use mathlib.Core.Bool.{Bool, true, false, cond, true≢false}
-use Prim.Native.Nat.{ℕ, suc, ◌+◌, ◌-◌, ◌*◌, ◌/◌, ◌^◌, ◌≤◌, ◌<◌, min}
-use native.Mathlib.Nat.{add_comm, not-suc-le-zero, mul-add-div_right, div-mul-le_self, lt-div-mul-add, div-lt_iff_lt-mul, div-eq_of_lt-le}
+-- Signed numbers by way of naturals: what is not below 0 fits where a natural number stands; a number with as much added as makes it natural divides as
+-- the number does, rounded down; and what an i32 needs that is held into 0 .. 255. Assumes nothing.
+use mathlib.Core.Path.{◌≡◌, refl, ap, ◌∙◌}
+use mathlib.Core.Bool.{false, true≢false}
+use Prim.Native.Nat.{ℕ, suc, ◌+◌, ◌-◌, ◌*◌, ◌/◌, ◌≤◌, ◌<◌}
+use native.Mathlib.Nat.{add_comm, mul-add-div_right, div-mul-le_self, lt-div-mul-add, div-lt_iff_lt-mul, div-eq_of_lt-le}
 use native.Mathlib.Omega.{arith}
-use borrow.Author.Tests.{ltb-true, ltb-false}
-use lib.IntN.{ℤ, pos, negsuc, neg_ℤ, nat_abs, ◌+ℤ◌, ◌-ℤ◌, +ℤ_idl, +ℤ_comm, +ℤ_assoc, neg_ℤ-+ℤ}
-use lib.Signed.{lt_z, non_neg, mag, shr_z}
+use lib.IntN.{ℤ, pos, negsuc, neg_ℤ, nat_abs, ◌+ℤ◌, ◌-ℤ◌, +ℤ_idl, +ℤ_assoc}
+use lib.Signed.{lt_z, non_neg, shr_z}
 use lib.Dec.{T}
 use mir.Syntax.{w32, w64}
 use mir.Val.{SFits, Fits, to_z, of_z}
 use mir.Facts.{to_z-of_z}
+use Rattle.std.specs.Int.{int_max, int_min}
+use Rattle.std.proofs.lemmas.Int.{ints, clamps}
 use Rattle.rules.specs.Transmission.{held}
-use Rattle.rules.proofs.Integers.{pos_sub, dif_eq, mag_nat_abs}
+use Rattle.rules.proofs.Integers.{pos_sub, dif_eq}
 
 pub plain : (v : ℤ) → lt_z v (pos 0) ≡ false → SFits w64 v → T (non_neg v) × Fits w64 (nat_abs v)
 plain (pos a) t f = (tt, record { fits = omega (arith, f.sfits) })
 plain (negsuc a) t f = absurd (true≢false t)
-
--- ---- how far a number is from 0, and below 0 from -1
-
-pub above_is : (p : ℤ) → lt_z p (pos 0) ≡ false → p ≡ pos (mag p)
-above_is (pos a) t = refl
-above_is (negsuc a) t = absurd (true≢false t)
-
-pub below_is : (p : ℤ) → lt_z p (pos 0) ≡ true → negsuc 0 -ℤ p ≡ pos (mag p)
-below_is (pos a) t = absurd (not-suc-le-zero (ltb-true a 0 t))
-below_is (negsuc a) t =
-    let less : suc a - 1 ≡ a = omega arith in
-    +ℤ_comm (negsuc 0) (pos (suc a)) ∙ pos_sub (suc a) 1 (omega arith) ∙ ap pos less
-
-pub minus_is : (d : ℕ) → negsuc 0 -ℤ pos d ≡ negsuc d
-minus_is d =
-    let one : 1 + d ≡ suc d = omega arith in
-    sym (neg_ℤ-+ℤ (pos 1) (pos d)) ∙ ap (λ (n : ℕ). neg_ℤ (pos n)) one
-
-pub divided : (p : ℤ) (q : ℕ) (t : Bool) → lt_z p (pos 0) ≡ t → cond t (negsuc (mag p / q)) (pos (mag p / q)) ≡ shr_z p q
-divided (pos a) q true e = absurd (not-suc-le-zero (ltb-true a 0 e))
-divided (pos a) q false e = refl
-divided (negsuc a) q true e = refl
-divided (negsuc a) q false e = absurd (true≢false e)
 
 -- ---- a number with top added, where that is natural
 
@@ -75,7 +53,7 @@ up_div n B (negsuc a) some h =
     let whole : B - suc (a / n) + suc (a / n) ≡ B = omega (arith, less) in
     rw whole at (below_div (B - suc (a / n)) (a / n) a n (div-mul-le_self a n) (lt-div-mul-add some))
 
--- ---- an i32, and one that is held into 0 .. 255: first at its low end, then at its high one
+-- ---- an i32, and one that is held into 0 .. 255
 
 abbrev pub rd32 : ℤ → ℤ
 rd32 z = to_z w32 (of_z w32 z)
@@ -83,13 +61,6 @@ rd32 z = to_z w32 (of_z w32 z)
 pub rd32_is : (z : ℤ) → SFits w32 z → rd32 z ≡ z
 rd32_is z f = to_z-of_z f
 
-pub fits32 : (z : ℤ) → nat_abs z < 2 ^ 31 → SFits w32 z
-fits32 z h = record { sfits = omega (arith, mag_nat_abs z) }
-
-pub held_is : (v : ℤ) (s t : Bool) → lt_z v (pos 0) ≡ s → lt_z (pos 255) (cond s (pos 0) v) ≡ t → cond t (pos 255) (cond s (pos 0) v) ≡ pos (held 255 v)
-held_is (pos n) true t e f = absurd (not-suc-le-zero (ltb-true n 0 e))
-held_is (pos n) false true e f = let top : 255 ≡ min n 255 = omega (arith, ltb-true 255 n f) in ap pos top
-held_is (pos n) false false e f = let same : n ≡ min n 255 = omega (arith, ltb-false 255 n f) in ap pos same
-held_is (negsuc n) true true e f = absurd (not-suc-le-zero (ltb-true 255 0 f))
-held_is (negsuc n) true false e f = refl
-held_is (negsuc n) false t e f = absurd (true≢false e)
+pub clamp_is : (v : ℤ) → int_max (pos 0) (int_min v (pos 255)) ≡ pos (held 255 v)
+clamp_is (pos n) = omega (arith, ints, clamps)
+clamp_is (negsuc n) = omega (arith, ints, clamps)

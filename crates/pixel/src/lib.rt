@@ -14,8 +14,17 @@ ghost use Rattle.rules.specs.Buffers.{pixel_at};
 ghost use Rattle.pixel.specs.Moments.{Moments};
 ghost use Rattle.pixel.specs.Over.{Over, parts, ScaledBy, Under};
 
-use numbers::{lesser_u32, lesser_u64};
 use rules::Rgb;
+
+// How many parts make 1: of the scale of a light, of the scale of a transmission, and of a reciprocal.
+const LIGHT_PARTS: u32 = 1 << 16;
+
+const SCALE_PARTS: u64 = 1 << 23;
+
+const RECIPROCAL_PARTS: u64 = 1 << 46;
+
+// What the lower digit of a long division counts to.
+const DIGIT: u64 = 1 << 17;
 
 // ---- what is read of a pixel
 
@@ -36,14 +45,14 @@ pub fn pixel_at(frame: &[u8], p: usize) -> Rgb
 pub fn darkest_of(i: Rgb) -> u64
     ensures { result ≡ darkest i }
 {
-    lesser_u64(i.r as u64, lesser_u64(i.g as u64, i.b as u64))
+    u64::from(i.r.min(i.g.min(i.b)))
 }
 
 // The guide: R+G+B.
 pub fn guide_of(i: Rgb) -> u64
     ensures { (result ≡ guide i) × (result ≤ 765) }
 {
-    (i.r as u64) + (i.g as u64) + (i.b as u64)
+    u64::from(i.r) + u64::from(i.g) + u64::from(i.b)
 }
 
 // ---- from light to transmission
@@ -61,7 +70,7 @@ pub fn light_scale(a: u8) -> u32
     requires { 0 < a }
     ensures { Over 10000 a 65536 result }
 {
-    655360000 / (a as u32) + 1
+    10000 * LIGHT_PARTS / u32::from(a) + 1
 }
 
 // A byte over the light of its channel, and the light's scale.
@@ -70,34 +79,27 @@ struct Fraction {
     i: u32,
     a: u32,
     k: u32,
+    ghost scaled: { Under i a k },
 }
 
 // The byte i over the light a.
 fn over_light(i: u8, a: u8, k: u32) -> Fraction
     requires { (0 < a) × Over 10000 a 65536 k }
-    ensures { Under result.i result.a result.k × (ratio result.i result.a ≡ ratio i a) }
+    ensures { ratio result.i result.a ≡ ratio i a }
 {
     Fraction {
-        i: i as u32,
-        a: a as u32,
+        i: u32::from(i),
+        a: u32::from(a),
         k,
     }
 }
 
-// Ratio of a byte i under light a, by the light's scale.
-fn ratio_of(i: u32, a: u32, k: u32) -> u64
-    requires { Under i a k }
-    ensures { result ≡ ratio i a }
+// Its ratio, by the light's scale.
+#[tactic(auto, using(crate::proofs::Fractions::ratio_scaled))]
+fn ratio_of(f: Fraction) -> u64
+    ensures { result ≡ ratio f.i f.a }
 {
-    (lesser_u32(i, a) * k / 65536) as u64
-}
-
-// The product of two bytes.
-fn product(i: u32, a: u32) -> u32
-    requires { (i ≤ 255) × (a ≤ 255) }
-    ensures { result ≡ i * a }
-{
-    i * a
+    u64::from(f.i.min(f.a) * f.k / LIGHT_PARTS)
 }
 
 // The second number if it is asked for, else the first. A fraction is chosen number by number with it, since the compiler makes no branch of that.
@@ -109,16 +111,15 @@ fn chosen(second: bool, x: u32, y: u32) -> u32
 
 // Whether x is the smaller of two fractions, told by their cross products; of equal ones either may be said to be.
 fn is_smaller(x: Fraction, y: Fraction) -> bool
-    requires { Under x.i x.a x.k × Under y.i y.a y.k }
     ensures { (result ≡ true → x.i * y.a ≤ y.i * x.a) × (result ≡ false → y.i * x.a ≤ x.i * y.a) }
 {
-    product(x.i, y.a) < product(y.i, x.a)
+    x.i * y.a < y.i * x.a
 }
 
 // The smaller of two fractions.
+#[tactic(auto, using(crate::proofs::Fractions::smaller_is))]
 fn smaller(x: Fraction, y: Fraction) -> Fraction
-    requires { Under x.i x.a x.k × Under y.i y.a y.k }
-    ensures { Under result.i result.a result.k × (ratio result.i result.a ≡ min (ratio x.i x.a) (ratio y.i y.a)) }
+    ensures { ratio result.i result.a ≡ min (ratio x.i x.a) (ratio y.i y.a) }
 {
     let second = is_smaller(y, x);
     Fraction {
@@ -137,7 +138,7 @@ pub fn least_ratio(i: Rgb, a: Rgb, k: Scales) -> u64
     let green = over_light(i.g, a.g, k.g);
     let blue = over_light(i.b, a.b, k.b);
     let least = smaller(red, smaller(green, blue));
-    ratio_of(least.i, least.a, least.k)
+    ratio_of(least)
 }
 
 // Coarse transmission, from the least ratio d of a window.
@@ -145,7 +146,7 @@ pub fn coarse_of(omega: u64, d: u64) -> u64
     requires { (omega ≤ 10000) × (d ≤ 10000) }
     ensures { result ≡ coarse_of omega d }
 {
-    (10000 - (omega as u32) * (d as u32) / 10000) as u64
+    u64::from(10000 - (omega as u32) * (d as u32) / 10000)
 }
 
 // How far p is from 0, and below 0 from -1.
@@ -163,7 +164,7 @@ fn signed(below: bool, d: u64) -> i64
     if below { 0 - 1 - (d as i64) } else { d as i64 }
 }
 
-// The quotient rounded down.
+// The quotient rounded down. `div_euclid` was tried and is slower: it divides numbers with signs, after two tests.
 fn floor_div(p: i64, q: u64) -> i64
     requires { 0 < q }
     ensures { result ≡ shr_z p q }
@@ -186,7 +187,7 @@ pub fn reciprocal(n: u64) -> u64
     requires { (0 < n) × (n ≤ 14641) }
     ensures { Over 1 n parts result }
 {
-    70368744177664 / n + 1
+    RECIPROCAL_PARTS / n + 1
 }
 
 // x by a reciprocal. It is x / n where n * x is below 2^46.
@@ -194,18 +195,19 @@ fn over(x: u64, inverse: u64) -> u64
     requires { x * inverse < 2 ^ 64 }
     ensures { result ≡ x * inverse / parts }
 {
-    x * inverse / 70368744177664
+    x * inverse / RECIPROCAL_PARTS
 }
 
 // y / n by the reciprocal of n: long division by two digits, the lower of 17 bits.
+#[tactic(auto, using(crate::proofs::Scaled::inverse_fits, crate::proofs::Scaled::inverse_is, crate::proofs::Scaled::left_le, crate::proofs::Scaled::low_lt, crate::proofs::Scaled::long))]
 fn long_over(y: u64, n: u64, inverse: u64) -> u64
     requires { (0 < n) × (n ≤ 14641) × Over 1 n parts inverse × (y < 4294967296 * n) }
     ensures { result ≡ y / n }
 {
-    let high = y / 131072;
+    let high = y / DIGIT;
     let q = over(high, inverse);
-    let low = (high - q * n) * 131072 + y % 131072;
-    q * 131072 + over(low, inverse)
+    let low = (high - q * n) * DIGIT + y % DIGIT;
+    q * DIGIT + over(low, inverse)
 }
 
 // The offset of the line that fits a window, from its slope a. 2^31 is added to it while it is divided, so that a natural number is.
@@ -222,10 +224,7 @@ pub fn offset(n: u64, inverse: u64, sg: u64, st: u64, a: i64) -> i64
 fn hold(v: i64, top: u64) -> u64
     ensures { result ≡ held top v }
 {
-    if v < 0 {
-        return 0;
-    }
-    lesser_u64(v as u64, top)
+    (v.max(0) as u64).min(top)
 }
 
 // 1024 n times the refined value of a pixel, before it is rounded and held: from the sums of slopes and offsets over its window, and its own guide.
@@ -248,33 +247,19 @@ pub fn refined(n: u64, inverse: u64, sa: i64, sb: i64, g: u64) -> u64
 
 // ---- from transmission to picture, and back
 
-// The larger of two numbers.
-fn larger(x: u32, y: u32) -> u32
-    ensures { result ≡ max x y }
-{
-    if x < y { y } else { x }
-}
-
 // 10,000 / t in parts of which 2^23 make 1, a little more: the division that a pixel's three channels share. Below 39 it is as at 39, where one
 // level of distance from the light already becomes 256.
 pub fn scale(t: u32) -> u32
     ensures { Over 10000 (max t 39) 8388608 result × (0 < result) }
 {
-    (83886080000 / (larger(t, 39) as u64)) as u32 + 1
-}
-
-// How far two bytes are apart.
-fn apart(a: u8, i: u8) -> u8
-    ensures { result ≡ (a - i) + (i - a) }
-{
-    if i < a { a - i } else { i - a }
+    (10000 * SCALE_PARTS / u64::from(t.max(39))) as u32 + 1
 }
 
 // How far a byte that is d from the light is from it without the haze, to the nearest level. What is past 255 may be any number past it.
 fn stretched(d: u8, scale: u32) -> i32
     ensures { (result ≡ pos ((d * scale + 4194304) / 8388608)) × (nat_abs result ≤ 131072) }
 {
-    (((d as u64) * (scale as u64) + 4194304) / 8388608) as i32
+    ((u64::from(d) * u64::from(scale) + SCALE_PARTS / 2) / SCALE_PARTS) as i32
 }
 
 // The light a with q taken from it, or added to it.
@@ -283,32 +268,18 @@ fn moved(below: bool, a: u8, q: i32) -> i32
     ensures { result ≡ cond below (pos a -ℤ q) (pos a +ℤ q) }
 {
     if below {
-        (a as i32) - q
+        i32::from(a) - q
     } else {
-        (a as i32) + q
+        i32::from(a) + q
     }
-}
-
-// A number that is at least 0.
-fn lowest(v: i32) -> i32
-    ensures { result ≡ cond (lt_z v (pos 0)) (pos 0) v }
-{
-    if v < 0 { 0 } else { v }
-}
-
-// A number that is at most 255.
-fn highest(v: i32) -> i32
-    ensures { result ≡ cond (lt_z (pos 255) v) (pos 255) v }
-{
-    if 255 < v { 255 } else { v }
 }
 
 // A byte without the haze: byte i under light a, by the scale of the transmission. Nothing in it is a branch once it is compiled.
 pub fn recovered(a: u8, i: u8, scale: u32) -> u8
     ensures { (t : ℕ) → 0 < t → t ≤ 10000 → Over 10000 (max t 39) 8388608 scale → result ≡ recover a i t }
 {
-    let q = stretched(apart(a, i), scale);
-    highest(lowest(moved(i < a, a, q))) as u8
+    let q = stretched(a.abs_diff(i), scale);
+    moved(i < a, a, q).clamp(0, 255) as u8
 }
 
 // A byte with haze: clean byte j under light a at transmission t.
@@ -317,5 +288,5 @@ pub fn hazed(a: u8, j: u8, t: u64) -> u8
     ensures { result ≡ haze a j t }
 {
     let part = t as u32;
-    (((j as u32) * part + (a as u32) * (10000 - part) + 5000) / 10000) as u8
+    ((u32::from(j) * part + u32::from(a) * (10000 - part) + 5000) / 10000) as u8
 }

@@ -1,58 +1,20 @@
 -- `bands::figure` meets its contract: the part of the map between two rows is the band, and each value is one division. Assumes nothing.
-use mathlib.Core.Path.{ap, ◌∙◌}
-use mathlib.Core.List.{List}
-use Prim.Native.Nat.{ℕ, ◌-◌, ◌*◌, ◌≤◌}
+use mathlib.Core.Path.{◌≡◌, ap}
+use Prim.Native.Nat.{ℕ, ◌-◌, ◌*◌}
 use native.Mathlib.Omega.{arith}
-use lib.ListN.{length, take, drop}
+use lib.ListN.{take, drop}
 use Rattle.rules.specs.Window.{total, least}
 use Rattle.rules.specs.Picture.{figure_of, figure as figure_in}
-use Rattle.bands.proofs.Laws.{Ends, ends, part_le, quotient_of}
+use Rattle.bands.proofs.Laws.{rows_count, sum_is, least_is}
 use Rattle.bands.proofs.figure.Goals as goal
-use Rattle.bands.proofs.figure.Goals.{Start}
-
-module _ (s : Start) where
-  abbrev start : ℕ
-  start = s.args.from * s.args.z.w
-
-  abbrev count : ℕ
-  count = s.args.to * s.args.z.w - start
-
-  -- the entries that the code reads
-  abbrev part : List ℕ
-  part = take count (drop start s.args.map.now)
-
-  edges : Ends (length s.args.map.now) s.args.z.w s.args.from s.args.to
-  edges = ends _ s.args.z.w s.args.z.h s.args.from s.args.to s.requires.1 s.requires.2 s.requires.3
-
-  few : length part ≤ 262144
-  few = part_le s.args.map.now count start (omega (arith, s.requires.0.area, s.requires.1))
-
-pub overflow_mul-start : goal.overflow_mul-start
-overflow_mul-start c = omega (arith, edges (goal.at.overflow_mul-start c).Start)
-
-pub overflow_mul-end : goal.overflow_mul-end
-overflow_mul-end c = omega (arith, edges (goal.at.overflow_mul-end c).Start)
-
-pub offset_bounds-map-start : goal.offset_bounds-map-start
-offset_bounds-map-start c = omega (arith, edges (goal.at.offset_bounds-map-start c).Start)
-
-pub slice_bounds-band-count : goal.slice_bounds-band-count
-slice_bounds-band-count c = omega (arith, edges (goal.at.slice_bounds-band-count c).Start)
-
-pub sum_of-requires : goal.sum_of-requires
-sum_of-requires c = few (goal.at.sum_of-requires c).Start
-
-pub overflow_mul-band : goal.overflow_mul-band
-overflow_mul-band c = omega (arith, few (goal.at.overflow_mul-band c).Start)
-
-pub divided-mean-requires : goal.divided-mean-requires
-divided-mean-requires c = (omega (arith, c.sum_of.ensures.1), omega (arith, few (goal.at.divided-mean-requires c).Start))
 
 pub returns : goal.returns
 unfolding figure_in
 returns c =
-    let l = part (goal.at.returns c).Start in
-    let mean = quotient_of _ (total (λ t. t) l) (10000 * length l) c.divided-mean.ensures (omega (arith, c.sum_of.ensures.0)) (omega arith) in
-    let low = quotient_of _ (least 10000 l) 10000 c.divided-least.ensures (omega (arith, c.least_of.ensures.0)) (omega arith) in
-    (λ i. record { mean = mean i; least = low i })
-    ∙ ap (λ (n : ℕ). figure_of (take n (drop (start (goal.at.returns c).Start) c.args.map.now))) (edges (goal.at.returns c).Start).count
+    let a = c.args in
+    let start = a.from * a.z.w in
+    let band = take (a.to * a.z.w - start) (drop start a.map.now) in
+    let sum : c.sum_of.result ≡ total (λ t. t) band = omega (arith, c.sum_of.ensures.value, sum_is band) in
+    let low : c.from.result ≡ least 10000 band = omega (arith, c.from.ensures, c.least_of.ensures, least_is band) in
+    rw (c.divided-mean.ensures, c.divided-least.ensures, sum, low)
+    (ap (λ (n : ℕ). figure_of (take n (drop start a.map.now))) (rows_count a.z.w a.from a.to c.requires.2))

@@ -1,10 +1,10 @@
 -- `budget::comparisons` meets its contract. Assumes nothing.
 use mathlib.Core.Path.{◌≡◌, sym, ◌∙◌}
-use mathlib.Core.Bool.{true, false}
-use Prim.Native.Nat.{ℕ, ◌*◌, ◌≤◌, ◌<◌}
+use mathlib.Core.Bool.{false}
+use Prim.Native.Nat.{ℕ, ◌*◌, ◌≤◌}
 use native.Mathlib.Nat.{mul-le-mul}
 use native.Mathlib.Omega.{arith}
-use borrow.Author.Tests.{lt-ltb, le-ltb}
+use borrow.Author.Tests.{le-ltb}
 use Rattle.rules.specs.declared.Size.{Size}
 use Rattle.rules.specs.Shape.{described}
 use Rattle.rules.specs.Good.{GoodSize}
@@ -16,13 +16,7 @@ use Rattle.rules.proofs.Count.{samples_at_most}
 use Rattle.budget.proofs.comparisons.Goals as goal
 use Rattle.budget.proofs.comparisons.Goals.{After-line, After-line-2, Else-wrong_size}
 
--- a size that is refused, a radius that is, and neither
-no_size : (z : Size) (s : ℕ) → bad_size z ≡ true → Budgets z s 0
-no_size z s e = record { answer = rw e }
-
-no_radius : (z : Size) (s : ℕ) → bad_size z ≡ false → 30 < s → Budgets z s 0
-no_radius z s e h = record { answer = rw (e, lt-ltb 30 s h) }
-
+-- a size and a radius that are not refused
 good : (z : Size) (s r : ℕ) → bad_size z ≡ false → s ≤ 30 → r ≡ frame_comparisons (described z) s → Budgets z s r
 good z s r e h n = record { answer = rw (e, le-ltb 30 s h) n }
 
@@ -30,17 +24,11 @@ good z s r e h n = record { answer = rw (e, le-ltb 30 s h) n }
 few : (s n r : ℕ) → r ≡ comparisons s (samples n) → n ≤ 1024 → r ≤ 3072
 few s n r e h = omega (arith, samples_at_most s n)
 
-pub returns-then-wrong_size : goal.returns-then-wrong_size
-returns-then-wrong_size c = no_size _ _ (sym c.wrong_size.ensures ∙ c.if-wrong_size.true)
-
 free : (c : Else-wrong_size) → bad_size c.args.z ≡ false
 free c = sym c.wrong_size.ensures ∙ c.if-wrong_size.false
 
 size : (c : Else-wrong_size) → GoodSize (described c.args.z)
 size c = size_good c.args.z (free c)
-
-pub returns-then-s-gt30 : goal.returns-then-s-gt30
-returns-then-s-gt30 c = no_radius _ _ (free (goal.at.returns-then-s-gt30 c).Else-wrong_size) (omega arith)
 
 pub line-requires : goal.line-requires
 line-requires c = (omega (arith, size (goal.at.line-requires c).Else-wrong_size), omega (arith, size (goal.at.line-requires c).Else-wrong_size), omega arith)

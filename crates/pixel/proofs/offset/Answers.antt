@@ -83,9 +83,6 @@ module _ (c : After-long_over) where
   result_fits : SFits w64 (to_z w64 c.long_over.result -ℤ pos 2147483648)
   result_fits = rw result_is (fits _ (omega (arith, small s)))
 
-pub overflow_mul-y-3 : goal.overflow_mul-y-3
-overflow_mul-y-3 c = as_fits (goal.at.overflow_mul-y-3 c).Start
-
 pub overflow_sub-y : goal.overflow_sub-y
 overflow_sub-y c = y_fits (goal.at.overflow_sub-y c).Start
 

@@ -1,7 +1,7 @@
 -- `pixel::refined` meets its contract: the sum fits, and what is held of it is at most ten thousand for each of the n. Assumes nothing.
 use Prim.Native.Nat.{ℕ, ◌≤◌, ◌*◌, ◌/◌}
 use mathlib.Core.Path.{◌≡◌, ap, ap₂, ◌∙◌}
-use lib.IntN.{ℤ, pos, nat_abs, ◌+ℤ◌, ◌*ℤ◌}
+use lib.IntN.{ℤ, pos, ◌+ℤ◌, ◌*ℤ◌}
 use native.Mathlib.Omega.{arith}
 use Rattle.rules.specs.Transmission.{held}
 use Rattle.rules.proofs.Integers.{rd, rd_is}
@@ -31,28 +31,21 @@ module _ (s : Start) where
 given : (s : Start) → rd (sa s) *ℤ pos (g s) +ℤ rd (sb s) ≡ sum s
 given s = ap₂ (λ (x y : ℤ). x *ℤ pos (g s) +ℤ y) (rd_is (sa s) (omega (arith, s.requires.4, s.requires.1))) (rd_is (sb s) (omega (arith, s.requires.5, s.requires.1)))
 
-v_is : (c : After-hold-v) → c.hold-v.result ≡ held (10240000 * n (goal.at.After-hold-v c).Start) (sum (goal.at.After-hold-v c).Start)
+v_is : (c : After-hold-v) → c.hold-v.result ≡ held (10240000 * c.args.n) (sum (goal.at.After-hold-v c).Start)
 v_is c =
-    let e = rd_is (sum (goal.at.After-hold-v c).Start) (omega (arith, refined_top (n (goal.at.After-hold-v c).Start) (g (goal.at.After-hold-v c).Start) (sa (goal.at.After-hold-v c).Start) (sb (goal.at.After-hold-v c).Start) c.requires.3 c.requires.4 c.requires.5, c.requires.1)) in
-    c.hold-v.ensures ∙ ap (λ (z : ℤ). held (10240000 * n (goal.at.After-hold-v c).Start) (rd z)) (c.unheld.ensures ∙ given (goal.at.After-hold-v c).Start) ∙ ap (held (10240000 * n (goal.at.After-hold-v c).Start)) e
+    let e = rd_is (sum (goal.at.After-hold-v c).Start) (omega (arith, refined_top c.args.n c.args.g c.args.sa c.args.sb c.requires.3 c.requires.4 c.requires.5, c.requires.1)) in
+    c.hold-v.ensures ∙ ap (λ (z : ℤ). held (10240000 * c.args.n) (rd z)) (c.unheld.ensures ∙ given (goal.at.After-hold-v c).Start) ∙ ap (held (10240000 * c.args.n)) e
 
-v_le : (c : After-hold-v) → c.hold-v.result ≤ 10240000 * n (goal.at.After-hold-v c).Start
-v_le c = rw (v_is c) (held_le (10240000 * n (goal.at.After-hold-v c).Start) (sum (goal.at.After-hold-v c).Start))
-
-pub unheld-requires : goal.unheld-requires
-unheld-requires c =
-    let few : n (goal.at.unheld-requires c).Start ≤ 14641 = c.requires.1 in
-    let a : nat_abs (sa (goal.at.unheld-requires c).Start) ≤ 37480960000 = omega (arith, c.requires.4, few) in
-    let b : nat_abs (sb (goal.at.unheld-requires c).Start) ≤ 31441308090368 = omega (arith, c.requires.5, few) in
-    (c.requires.3, rw (rd_is (sa (goal.at.unheld-requires c).Start) (omega (arith, a))) a, rw (rd_is (sb (goal.at.unheld-requires c).Start) (omega (arith, b))) b)
+v_le : (c : After-hold-v) → c.hold-v.result ≤ 10240000 * c.args.n
+v_le c = rw (v_is c) (held_le (10240000 * c.args.n) (sum (goal.at.After-hold-v c).Start))
 
 pub over-requires : goal.over-requires
 over-requires c =
-    inverse_fits (n (goal.at.over-requires c).Start) c.args.inverse c.requires.0 c.requires.1 c.requires.2 (c.hold-v.result / 1024) (omega (arith, v_le (goal.at.over-requires c).After-hold-v))
+    inverse_fits c.args.n c.args.inverse c.requires.0 c.requires.1 c.requires.2 (c.hold-v.result / 1024) (omega (arith, v_le (goal.at.over-requires c).After-hold-v))
 
 pub returns : goal.returns
 returns c =
-    let quotient = inverse_is (n (goal.at.returns c).Start) c.args.inverse c.requires.0 c.requires.1 c.requires.2 (c.hold-v.result / 1024) (omega (arith, v_le (goal.at.returns c).After-hold-v)) in
-    let held = ap (λ (v : ℕ). v / 1024 / n (goal.at.returns c).Start) (v_is (goal.at.returns c).After-hold-v) in
-    let r = c.over.ensures ∙ quotient ∙ held ∙ refined_first (n (goal.at.returns c).Start) (sa (goal.at.returns c).Start) (sb (goal.at.returns c).Start) (g (goal.at.returns c).Start) c.requires.0 in
-    (r, rw r (refined_le (n (goal.at.returns c).Start) (sa (goal.at.returns c).Start) (sb (goal.at.returns c).Start) (g (goal.at.returns c).Start)))
+    let quotient = inverse_is c.args.n c.args.inverse c.requires.0 c.requires.1 c.requires.2 (c.hold-v.result / 1024) (omega (arith, v_le (goal.at.returns c).After-hold-v)) in
+    let held = ap (λ (v : ℕ). v / 1024 / c.args.n) (v_is (goal.at.returns c).After-hold-v) in
+    let r = c.over.ensures ∙ quotient ∙ held ∙ refined_first c.args.n c.args.sa c.args.sb c.args.g c.requires.0 in
+    (r, rw r (refined_le c.args.n c.args.sa c.args.sb c.args.g))

@@ -56,43 +56,10 @@ module _ (s : Start) where
   exact : shr_z (rd (pos 1024 *ℤ rd p)) (Q n sg sgg e) ≡ slope_of n sg st sgg sgt e
   exact = ap (λ (a : ℤ). shr_z a (Q n sg sgg e)) k_back
 
-pub overflow_mul-p : goal.overflow_mul-p
-overflow_mul-p c = omega (arith, z (goal.at.overflow_mul-p c).Start)
-
-pub overflow_cast-p : goal.overflow_cast-p
-overflow_cast-p c = fits _ (omega (arith, z (goal.at.overflow_cast-p c).Start))
-
-pub overflow_mul-p-2 : goal.overflow_mul-p-2
-overflow_mul-p-2 c = omega (arith, z (goal.at.overflow_mul-p-2 c).Start)
-
-pub overflow_cast-p-2 : goal.overflow_cast-p-2
-overflow_cast-p-2 c = fits _ (omega (arith, z (goal.at.overflow_cast-p-2 c).Start))
-
-pub overflow_sub-p : goal.overflow_sub-p
-overflow_sub-p c = p_fits (goal.at.overflow_sub-p c).Start
-
 pub overflow_mul-p-3 : goal.overflow_mul-p-3
 overflow_mul-p-3 c = k_fits (goal.at.overflow_mul-p-3 c).Start
-
-pub overflow_mul-n : goal.overflow_mul-n
-overflow_mul-n c = omega (arith, z (goal.at.overflow_mul-n c).Start)
-
-pub overflow_mul-sg : goal.overflow_mul-sg
-overflow_mul-sg c = omega (arith, z (goal.at.overflow_mul-sg c).Start)
-
-pub overflow_mul-n-2 : goal.overflow_mul-n-2
-overflow_mul-n-2 c = omega (arith, z (goal.at.overflow_mul-n-2 c).Start)
-
-pub overflow_mul-n-3 : goal.overflow_mul-n-3
-overflow_mul-n-3 c = omega (arith, z (goal.at.overflow_mul-n-3 c).Start)
-
-pub overflow_add-n : goal.overflow_add-n
-overflow_add-n c = omega (arith, z (goal.at.overflow_add-n c).Start)
-
-pub floor_div-requires : goal.floor_div-requires
-floor_div-requires c = omega (arith, z (goal.at.floor_div-requires c).Start)
 
 pub returns : goal.returns
 returns c =
     let r = back c.floor_div.result (record { sfits = c.floor_div.type_inv }) ∙ c.floor_div.ensures ∙ exact (goal.at.returns c).Start in
-    record { exact = r; small = rw r (slope_small (n (goal.at.returns c).Start) (sg (goal.at.returns c).Start) (st (goal.at.returns c).Start) (sgg (goal.at.returns c).Start) (sgt (goal.at.returns c).Start) (e (goal.at.returns c).Start) (z (goal.at.returns c).Start)) }
+    record { exact = r; small = rw r (slope_small _ _ _ _ _ _ (z (goal.at.returns c).Start)) }

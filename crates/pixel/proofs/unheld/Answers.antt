@@ -35,9 +35,6 @@ module _ (s : Start) where
   sum_fits : SFits w64 (rd (rd sa *ℤ to_z w64 g) +ℤ rd sb)
   sum_fits = rw sum_is (fits _ (omega (arith, nat_abs-+ (sa *ℤ pos g) sb, ag_le, s.requires.2)))
 
-pub overflow_mul-result : goal.overflow_mul-result
-overflow_mul-result c = ag_fits (goal.at.overflow_mul-result c).Start
-
 pub overflow_add-result : goal.overflow_add-result
 overflow_add-result c = sum_fits (goal.at.overflow_add-result c).Start
 
