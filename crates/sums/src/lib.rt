@@ -5,7 +5,6 @@ ghost use Rattle.std.specs.Prelude.{◌≡◌, ℕ, ◌+◌, ◌*◌, ◌≤◌,
 ghost use Rattle.planes.specs.Cells.{cells};
 ghost use Rattle.sums.specs.Sum.{Summable, Columns, RowSums, kept, entry, range_sum, RowIn, Rewritten, entered, left, slid, Spannable, Spans};
 
-use numbers::{cut, less};
 use planes::View;
 
 // ---- a row more, or a row less
@@ -15,10 +14,8 @@ fn enter(cols: &mut [i64], to: usize, plane: &[i64], at: usize, n: usize)
     requires { RowIn cols.old to plane.now at n }
     ensures { Rewritten cols.old cols.new to n (entered cols.old to plane.now at) }
 {
-    let mut i = 0;
-    while i < n {
+    for i in 0..n {
         cols[to + i] = cols[to + i] + plane[at + i];
-        i += 1;
     }
 }
 
@@ -27,10 +24,8 @@ fn leave(cols: &mut [i64], to: usize, plane: &[i64], at: usize, n: usize)
     requires { RowIn cols.old to plane.now at n }
     ensures { Rewritten cols.old cols.new to n (left cols.old to plane.now at) }
 {
-    let mut i = 0;
-    while i < n {
+    for i in 0..n {
         cols[to + i] = cols[to + i] - plane[at + i];
-        i += 1;
     }
 }
 
@@ -39,10 +34,8 @@ fn slide(cols: &mut [i64], to: usize, plane: &[i64], at: usize, old: usize, n: u
     requires { RowIn cols.old to plane.now at n × RowIn cols.old to plane.now old n }
     ensures { Rewritten cols.old cols.new to n (slid cols.old to plane.now at old) }
 {
-    let mut i = 0;
-    while i < n {
+    for i in 0..n {
         cols[to + i] = cols[to + i] + plane[at + i] - plane[old + i];
-        i += 1;
     }
 }
 
@@ -51,11 +44,9 @@ pub fn begin(cols: &mut [i64], plane: &[i64], v: View, r: usize)
     requires { Summable plane.now v r × (length cols.old ≡ kept) × ((k : ℕ) → get_or cols.old k (pos 0) ≡ pos 0) }
     ensures { Columns cols.new (cells plane.now 0 v.w) v.w v.h r v.top }
 {
-    let end = cut(v.top, r, v.h);
-    let mut y = less(v.top, r + 1);
-    while y < end {
+    let end = (v.top + r).min(v.h);
+    for y in v.top.saturating_sub(r + 1)..end {
         enter(cols, r + 1, plane, y * v.w, v.w);
-        y += 1;
     }
 }
 
@@ -86,10 +77,8 @@ pub fn first(cols: &[i64], from: usize, end: usize) -> i64
     ensures { result ≡ range_sum (entry cols.now) from end }
 {
     let mut s: i64 = 0;
-    let mut i = from;
-    while i < end {
-        s = s + cols[i];
-        i += 1;
+    for i in from..end {
+        s += cols[i];
     }
     s
 }
@@ -109,14 +98,12 @@ fn across(
 {
     let mut s = first(cols, x, x + d);
     let mut t = first(other, x, x + d);
-    let mut i = 0;
-    while i < n {
+    for i in 0..n {
         let a = x + i;
-        s = s + (cols[a + d] - cols[a]);
-        t = t + (other[a + d] - other[a]);
+        s += cols[a + d] - cols[a];
+        t += other[a + d] - other[a];
         out[i] = s;
         second[i] = t;
-        i += 1;
     }
 }
 
