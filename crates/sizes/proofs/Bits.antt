@@ -3,8 +3,6 @@ use mathlib.Core.Path.{◌≡◌, refl, sym, ap, ◌∙◌}
 use mathlib.Core.Bool.{Bool, true, false}
 use mathlib.Core.List.{List}
 use Prim.Native.Nat.{ℕ, ◌+◌, ◌≤◌, ◌<◌}
-use native.Mathlib.Nat.{not-suc-le-zero}
-use native.Mathlib.Decide.{dec_lt}
 use native.Mathlib.Omega.{arith}
 use lib.ListN.{length, get_or, length-map, get_or-map}
 use lib.IntN.{ℤ, nat_abs, ◌+ℤ◌, ◌-ℤ◌}
@@ -60,24 +58,11 @@ mask_row {v} b mask i f hr c le u at e hu =
 
 -- ---- pixels that are seen alike
 
--- if d is 0, so are the first i from `at` on and from `other` on
-abbrev pub AlikeTo : List ℕ → ℕ → ℕ → ℕ → ℕ → Type 0
-AlikeTo mask at other i d = d ≡ 0 → (j : ℕ) → j < i → shows (get_or mask (at + j) 0) ≡ shows (get_or mask (other + j) 0)
-
-pub alike_none : (mask : List ℕ) (at other d : ℕ) → AlikeTo mask at other 0 d
-alike_none mask at other d z j q = absurd (not-suc-le-zero q)
-
-pub alike_more : (mask : List ℕ) (at other i d k : ℕ) → AlikeTo mask at other i d → (k ≡ 0 → shows (get_or mask (at + i) 0) ≡ shows (get_or mask (other + i) 0))
-    → AlikeTo mask at other (i + 1) (d + k)
-alike_more mask at other i d k a here z j q = by (dec_lt j i)
-  where
-    by : Dec (j < i) → shows (get_or mask (at + j) 0) ≡ shows (get_or mask (other + j) 0)
-    by (yes p) = a (omega arith) j p
-    by (no p) =
-        let e : j ≡ i = omega arith in
-        rw e (here (omega arith))
+-- if `same` holds, so are the first i from `at` on and from `other` on
+abbrev pub AlikeTo : List ℕ → ℕ → ℕ → ℕ → Bool → Type 0
+AlikeTo mask at other i same = same ≡ true → (j : ℕ) → j < i → shows (get_or mask (at + j) 0) ≡ shows (get_or mask (other + j) 0)
 
 -- two rows of the box
-pub alike_rows : (b : View) (mask : List ℕ) (u o at other n : ℕ) → at ≡ row_start b u → other ≡ row_start b o → AlikeTo mask at other n 0
+pub alike_rows : (b : View) (mask : List ℕ) (u o at other n : ℕ) → at ≡ row_start b u → other ≡ row_start b o → AlikeTo mask at other n true
     → (x : ℕ) → x < n → box_seen b mask u x ≡ box_seen b mask o x
 alike_rows b mask u o at other n e d a x q = sym (seen_at_lem b mask u x) ∙ rw (e, d) at (a refl x q) ∙ seen_at_lem b mask o x

@@ -1,8 +1,8 @@
 -- One turn of the loops over a row: what the machine computes of two numbers that are small, and one entry more of a row, or one sum more. Assumes nothing.
-use mathlib.Core.Path.{◌≡◌, refl, ap, ap₂, ◌∙◌}
+use mathlib.Core.Path.{◌≡◌, ap, ◌∙◌}
 use mathlib.Core.List.{List}
 use Prim.Native.Nat.{ℕ, ◌+◌, ◌-◌, ◌*◌, ◌^◌, ◌≤◌, ◌<◌}
-use native.Mathlib.Nat.{not-suc-le-zero, mul-le-mul_right}
+use native.Mathlib.Nat.{mul-le-mul_right}
 use native.Mathlib.Decide.{dec_lt}
 use native.Mathlib.Omega.{arith}
 use lib.IntN.{ℤ, pos, nat_abs, ◌+ℤ◌, ◌-ℤ◌}
@@ -37,10 +37,6 @@ module _ (a b : ℤ) (M N : ℕ) (ha : nat_abs a ≤ M) (hb : nat_abs b ≤ N) (
   difference = computes _ (a -ℤ b) (M + N) (sub_is a b M N ha hb h) (sub_le a b M N ha hb h) h
 
 -- ---- a row
-
--- none is rewritten
-pub rewritten_none : (l : List ℤ) (to : ℕ) (g : ℕ → ℤ) → Rewritten l l to 0 g
-rewritten_none l to g = record { is = λ i q. absurd (not-suc-le-zero q); rest = λ k q. refl }
 
 -- i of n columns are rewritten
 pub record Turn (l m : List ℤ) (to : ℕ) (plane : List ℤ) (at n i : ℕ) (g : ℕ → ℤ) : Type 0 where
@@ -113,13 +109,6 @@ module _ (cols : List ℤ) (s : Spannable cols) where
 pub record Holds (cols : List ℤ) (x d i : ℕ) (acc : ℤ) : Type 0 where
   pub value : acc ≡ rd (Σ ◌+ℤ◌ (pos 0) (x + i) d (entry cols))
 
--- the first, from x on
-pub holds_first : (cols : List ℤ) (x d : ℕ) (v : ℤ) → v ≡ range_sum (entry cols) x (x + d) → Holds cols x d 0 (rd v)
-holds_first cols x d v e =
-    let n : x + d - x ≡ d = omega arith in
-    let a : x ≡ x + 0 = omega arith in
-    record { value = ap rd (e ∙ ap₂ (λ (p k : ℕ). Σ ◌+ℤ◌ (pos 0) p k (entry cols)) a n) }
-
 module _ {cols : List ℤ} {x d i : ℕ} {acc : ℤ} (s : Spannable cols) (h : d ≤ 121) (b : Holds cols x d i acc) where
   -- what the sum becomes when it moves on by one column
   abbrev pub moved : ℤ
@@ -147,10 +136,6 @@ pub record Running (n : ℕ) (out cols : List ℤ) (x d i : ℕ) (acc : ℤ) : T
   pub long : length out ≡ n
   pub holds : Holds cols x d i acc
   pub spans : Spans out cols x d i
-
--- no sum yet
-pub running_none : (out cols : List ℤ) (x d : ℕ) (v : ℤ) → v ≡ range_sum (entry cols) x (x + d) → Running (length out) out cols x d 0 (rd v)
-running_none out cols x d v e = record { long = refl; holds = holds_first cols x d v e; spans = record { is = λ i q. absurd (not-suc-le-zero q) } }
 
 -- one sum more
 pub running_more : {n : ℕ} {out cols : List ℤ} {x d i : ℕ} {acc : ℤ} (s : Spannable cols) (h : d ≤ 121) (r : Running n out cols x d i acc) → i < n
