@@ -4,15 +4,16 @@
 #![tactic(auto)]
 
 ghost use Rattle.std.specs.Prelude.{◌≡◌, true, ℕ, ◌+◌, ◌-◌, ◌≤◌, ◌<◌, max, length, get_or, pos, nat_abs};
-ghost use Rattle.planes.specs.View.{InPlane, Framed};
+ghost use Rattle.planes.specs.View.{InPlane, Framed, row_start};
 ghost use Rattle.planes.specs.Stage.{box_seen};
-ghost use Rattle.sums.specs.Sum.{kept, Columns, Spannable, RowIn, Rewritten, entered, left};
+ghost use Rattle.sums.specs.Sum.{kept, Columns, Spannable};
 ghost use Rattle.pixel.specs.Over.{Over, parts};
-ghost use Rattle.sizes.specs.Sizes.{Table, Sizes, Unchanged, shows, bit, bit_plane, bits_of, Count, span_at, Counted, Countable, Inverted};
+ghost use Rattle.sizes.specs.Bits.{row_ends, row_stands};
+ghost use Rattle.sizes.specs.Sizes.{Table, Sizes, Unchanged, Row, shows, bit_plane, bits_of, Count, span_at, Counted, Countable, Inverted};
 
 use pixel::reciprocal;
 use planes::{View, row_start, seen_or};
-use sums::first;
+use sums::{Source, advance, begin_of, first};
 
 // ---- the mask
 
@@ -30,23 +31,34 @@ fn alike(mask: &[u8], at: usize, other: usize, n: usize) -> bool
 
 // ---- the columns
 
-// The n columns from place `to` on take in the n pixels of the mask from `at` on.
-fn take_in(cols: &mut [i64], to: usize, mask: &[u8], at: usize, n: usize)
-    requires { RowIn cols.old to (bits_of mask.now) at n × (at + n ≤ length mask.now) }
-    ensures { Rewritten cols.old cols.new to n (entered cols.old to (bits_of mask.now) at) }
-{
-    for i in 0..n {
-        cols[to + i] += seen_or(mask[at + i], 1, 0);
-    }
+// The box b of a mask, as a plane of ones, for pixels that are seen, and zeros.
+#[derive(Clone, Copy)]
+struct Seen<'a> {
+    mask: &'a [u8],
+    b: View,
 }
 
-// The n columns from place `to` on let out the n pixels of the mask from `at` on.
-fn let_out(cols: &mut [i64], to: usize, mask: &[u8], at: usize, n: usize)
-    requires { RowIn cols.old to (bits_of mask.now) at n × (at + n ≤ length mask.now) }
-    ensures { Rewritten cols.old cols.new to n (left cols.old to (bits_of mask.now) at) }
-{
-    for i in 0..n {
-        cols[to + i] -= seen_or(mask[at + i], 1, 0);
+impl<'a> Source for Seen<'a> {
+    ghost plane = { λ s. bit_plane s.b s.mask.now };
+
+    ghost wide = { λ s. s.b.wide };
+
+    ghost has_row = { λ s y. Row s.b s.mask.now y };
+
+    ghost entries = { λ s. bits_of s.mask.now };
+
+    ghost place = { λ s y. row_start s.b y };
+
+    ghost ends = { λ s y p. row_ends s.b s.mask.now y p };
+
+    ghost stands = { λ s y x. row_stands s.b s.mask.now y x };
+
+    fn start(self, y: usize) -> usize {
+        row_start(self.b, y)
+    }
+
+    fn read(self, at: usize, x: usize) -> i64 {
+        seen_or(self.mask[at + x], 1, 0)
     }
 }
 
@@ -55,28 +67,7 @@ pub fn begin(cols: &mut [i64], mask: &[u8], b: View, v: View, r: usize)
     requires { InPlane v × Framed b v mask.now × (r ≤ 60) × (length cols.old ≡ kept) × ((k : ℕ) → get_or cols.old k (pos 0) ≡ pos 0) }
     ensures { Columns cols.new (bit_plane b mask.now) v.w v.h r v.top }
 {
-    let end = (v.top + r).min(v.h);
-    for y in v.top.saturating_sub(r + 1)..end {
-        take_in(cols, r + 1, mask, row_start(b, y), v.w);
-    }
-}
-
-// The columns from before row y of the box to before the next: a row enters unless it is below the box, and one leaves unless it is above it.
-fn advance(cols: &mut [i64], mask: &[u8], b: View, v: View, r: usize, y: usize)
-    requires in_plane { InPlane v × Framed b v mask.now × (r ≤ 60) × (y < v.h) }
-    requires columns { Columns cols.old (bit_plane b mask.now) v.w v.h r y }
-    ensures { Columns cols.new (bit_plane b mask.now) v.w v.h r (y + 1) }
-{
-    if v.h <= y + r {
-        if r < y {
-            let_out(cols, r + 1, mask, row_start(b, y - r - 1), v.w);
-        }
-        return;
-    }
-    take_in(cols, r + 1, mask, row_start(b, y + r), v.w);
-    if r < y {
-        let_out(cols, r + 1, mask, row_start(b, y - r - 1), v.w);
-    }
+    begin_of(cols, Seen { mask, b }, v, r);
 }
 
 // Whether the columns before row y + 1 of the box are those before row y: one row enters and another leaves, and they are seen alike.
@@ -161,7 +152,7 @@ pub fn resize(
     if 0 < y && unchanged(mask, b, v, r, at) {
         return;
     }
-    advance(cols, mask, b, v, r, at);
+    advance(cols, Seen { mask, b }, v, r, at);
     size_row(cols, v.left, 2 * r + 1, v.wide, ns);
     inverse_row(table, v.wide, ns, inverses);
 }

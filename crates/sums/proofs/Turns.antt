@@ -51,17 +51,18 @@ module _ {l m : List ℤ} {to : ℕ} {plane : List ℤ} {at n i : ℕ} {g : ℕ 
   here = t.out.rest (to + i) (λ p q. omega arith)
 
   -- what it becomes in each of the three loops
-  pub enters : Computes (rd (entry m (to + i)) +ℤ rd (entry plane (at + i))) (entered l to plane at i) (column_most + value_most)
-  enters = rw here (sum (entry l (to + i)) (entry plane (at + i)) column_most value_most (t.pre.held i t.less) (t.pre.small i t.less) (omega arith))
+  pub enters : (s : ℤ) → s ≡ entry plane (at + i) → Computes (rd (entry m (to + i)) +ℤ rd s) (entered l to plane at i) (column_most + value_most)
+  enters s e = rw (here, e) (sum (entry l (to + i)) (entry plane (at + i)) column_most value_most (t.pre.held i t.less) (t.pre.small i t.less) (omega arith))
 
-  pub leaves : Computes (rd (entry m (to + i)) -ℤ rd (entry plane (at + i))) (left l to plane at i) (column_most + value_most)
-  leaves = rw here (difference (entry l (to + i)) (entry plane (at + i)) column_most value_most (t.pre.held i t.less) (t.pre.small i t.less) (omega arith))
+  pub leaves : (s : ℤ) → s ≡ entry plane (at + i) → Computes (rd (entry m (to + i)) -ℤ rd s) (left l to plane at i) (column_most + value_most)
+  leaves s e = rw (here, e) (difference (entry l (to + i)) (entry plane (at + i)) column_most value_most (t.pre.held i t.less) (t.pre.small i t.less) (omega arith))
 
-  pub slides : (old : ℕ) → RowIn l to plane old n
-      → Computes (rd (rd (entry m (to + i)) +ℤ rd (entry plane (at + i))) -ℤ rd (entry plane (old + i))) (slid l to plane at old i) (column_most + value_most + value_most)
-  slides old p =
-      rw enters.is
-      (difference (entered l to plane at i) (entry plane (old + i)) (column_most + value_most) value_most enters.size (p.small i t.less) (omega arith))
+  pub slides : (old : ℕ) → RowIn l to plane old n → (s o : ℤ) → s ≡ entry plane (at + i) → o ≡ entry plane (old + i)
+      → Computes (rd (rd (entry m (to + i)) +ℤ rd s) -ℤ rd o) (slid l to plane at old i) (column_most + value_most + value_most)
+  slides old p s o e d =
+      let c = enters s e in
+      rw (c.is, d)
+      (difference (entered l to plane at i) (entry plane (old + i)) (column_most + value_most) value_most c.size (p.small i t.less) (omega arith))
 
   -- and is written
   pub turned : (v : ℤ) {M : ℕ} → Computes v (g i) M → Rewritten l (set m (to + i) (rd v)) to (i + 1) g

@@ -3,8 +3,8 @@ use Prim.Native.Nat.{◌+◌, ◌-◌, ◌*◌, ◌<◌}
 use mathlib.Core.Path.{◌≡◌, refl}
 use native.Mathlib.Omega.{arith}
 use Rattle.planes.specs.Stage.{box_seen}
-use Rattle.sums.proofs.Strips.{spannable}
-use Rattle.sizes.proofs.Bits.{bits_small}
+use Rattle.sums.proofs.Strips.{readable_small, spannable}
+use Rattle.sizes.proofs.Bits.{readable}
 use Rattle.sizes.proofs.Rows.{still}
 use Rattle.sizes.proofs.Spanned.{counts, countable, sizes_all, sizes_same}
 use Rattle.sizes.proofs.resize.Goals as goal
@@ -29,7 +29,7 @@ size_row-requires c =
     let p = c.requires.in_plane.0 in
     let cols = c.advance.ensures in record {
       spannable = (
-        spannable (bits_small a.b a.mask.now p c.requires.in_plane.2) cols (omega arith),
+        spannable (readable_small (readable a.b a.mask.now p c.requires.in_plane.1 c.requires.in_plane.2)) cols (omega arith),
         omega (arith, c.requires.in_plane.2),
         omega (arith, c.requires.in_plane.2, p.fits.columns, p.short),
         c.requires.in_plane.5,

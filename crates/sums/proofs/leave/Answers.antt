@@ -2,11 +2,11 @@
 use Rattle.sums.specs.Sum.{left}
 use Rattle.sums.proofs.Turns.{Turn, leaves, turned}
 use Rattle.sums.proofs.leave.Goals as goal
-use Rattle.sums.proofs.leave.Goals.{In-loop-i}
-
-turn : (t : In-loop-i) → let a = t.args in
-    Turn a.cols.now t.loop-i.cols a.to a.plane.now a.at a.n t.loop-i.i (left a.cols.now a.to a.plane.now a.at)
-turn t = record { pre = t.requires; less = t.loop-i-test.true; long = t.loop-i.auto.cols; out = t.loop-i.invariant }
 
 pub loop-i-preserved : goal.loop-i-preserved
-loop-i-preserved c = turned (turn (goal.at.loop-i-preserved c).In-loop-i) _ (leaves (turn (goal.at.loop-i-preserved c).In-loop-i))
+loop-i-preserved g c =
+    let a = c.args in
+    let values = g.S.Source.entries a.source in
+    let t : Turn a.cols.now c.loop-i.cols a.to values a.at a.n c.loop-i.i (left a.cols.now a.to values a.at) =
+    record { pre = c.requires; less = c.loop-i-test.true; long = c.loop-i.auto.cols; out = c.loop-i.invariant } in
+    turned t _ (leaves t _ c.read.ensures)

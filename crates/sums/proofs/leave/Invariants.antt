@@ -3,4 +3,4 @@ use Rattle.sums.specs.Sum.{Rewritten, left}
 use Rattle.sums.proofs.leave.Given as goal
 
 abbrev pub invariant-loop-i : goal.invariant-loop-i
-invariant-loop-i l = Rewritten l.initial.cols l.cols l.to l.i (left l.initial.cols l.to l.plane l.at)
+invariant-loop-i g l = Rewritten l.initial.cols l.cols l.to l.i (left l.initial.cols l.to (g.S.Source.entries l.source) l.at)

@@ -3,4 +3,4 @@ use Rattle.sums.specs.Sum.{Rewritten, slid}
 use Rattle.sums.proofs.slide.Given as goal
 
 abbrev pub invariant-loop-i : goal.invariant-loop-i
-invariant-loop-i l = Rewritten l.initial.cols l.cols l.to l.i (slid l.initial.cols l.to l.plane l.at l.old)
+invariant-loop-i g l = Rewritten l.initial.cols l.cols l.to l.i (slid l.initial.cols l.to (g.S.Source.entries l.source) l.at l.old)
