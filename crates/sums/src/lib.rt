@@ -72,6 +72,8 @@ impl<'a> Source for Values<'a> {
 
 // ---- a row more, or a row less
 
+// Three loops: with one that is given the step as a closure, what its calls ask of a generic source was tried, and the proof did not close.
+
 // The n columns from place `to` on take in the n values from place `at` on.
 fn enter<S: Source + Copy>(cols: &mut [i64], to: usize, source: S, at: usize, n: usize)
     requires { RowIn cols.old to (S.entries source) at n }
