@@ -1,5 +1,5 @@
 -- A row of lines, pixel by pixel: the line of one pixel, what is read of a row of sums, and what one line more leaves. Assumes nothing.
-use mathlib.Core.Path.{◌≡◌, refl, ap, ap₂, ◌∙◌}
+use mathlib.Core.Path.{◌≡◌, ap, ap₂, ◌∙◌}
 use mathlib.Core.Bool.{true}
 use mathlib.Core.List.{List}
 use Prim.Native.Nat.{ℕ, ◌+◌, ◌≤◌, ◌<◌}
@@ -15,16 +15,6 @@ use Rattle.planes.specs.Stage.{seen_at}
 use Rattle.filter.specs.Row.{guides, coarses, WordMoments, word_slope, word_line, word, RowIn, flat_line, row_line, RowLines}
 
 -- ---- the lines before pixel i, and of pixel i
-
--- none yet
-pub row_none : (l : List ℤ) (s o : ℕ) (F : ℕ → Line) → RowLines l l s o 0 F
-row_none l s o F = record {
-  a = λ i h. absurd (omega arith);
-  b = λ i h. absurd (omega arith);
-  a_le = λ i h. absurd (omega arith);
-  b_le = λ i h. absurd (omega arith);
-  rest = λ k p q. refl;
-}
 
 module _ (l m : List ℤ) (s o n i : ℕ) (F : ℕ → Line) (apart : s + n ≤ o) (room : o + n ≤ length m) (less : i < n) (r : RowLines l m s o i F) where
   abbrev new : List ℤ
