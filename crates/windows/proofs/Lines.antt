@@ -64,26 +64,10 @@ written_as F G l m a b d e = record { is = λ i x y. d.is i x y ∙ e i x y; res
 
 -- ---- a run of n entries at `to`
 module _ (G : ℕ → ℕ) (l : List ℕ) (to : ℕ) where
-  pub laid_none : Laid G l l to 0
-  laid_none = rw add-zero (written_none (λ i. G (i - to)) l to)
-
-  pub laid_more : (m : List ℕ) (x v : ℕ) → Laid G l m to x → to + x < length m → v ≡ G x → Laid G l (set m (to + x) v) to (x + 1)
-  laid_more m x v d h e =
-      let y : to + x - to ≡ x = omega arith in
-      let z : to + (x + 1) ≡ to + x + 1 = omega arith in
-      rw z (written_more (λ i. G (i - to)) l m to (to + x) v d (omega arith) h (rw y e))
-
   pub laid_at : (m : List ℕ) (n x : ℕ) → Laid G l m to n → x < n → entry m (to + x) ≡ G x
   laid_at m n x d h =
       let y : to + x - to ≡ x = omega arith in
       rw y at (d.is (to + x) (omega arith) (omega arith))
-
--- a copy at 0
-pub copied : (row l m : List ℕ) (at n : ℕ) → Laid (λ x. entry row (at + x)) l m 0 n → (x : ℕ) → x < n → entry m x ≡ entry row (at + x)
-copied row l m at n d x h = let z : 0 + x ≡ x = omega arith in rw z at (laid_at (λ x. entry row (at + x)) l 0 m n x d h)
-
-pub copied_all : (row l m : List ℕ) (n : ℕ) → Laid (λ x. entry row (0 + x)) l m 0 n → (x : ℕ) → x < n → entry m x ≡ entry row x
-copied_all row l m n d x h = let z : 0 + x ≡ x = omega arith in rw z at (copied row l m 0 n d x h)
 
 -- ---- the least from a on, up to each sample of a stretch
 module _ (line l : List ℕ) (a : ℕ) where
