@@ -93,8 +93,8 @@ all_shown z k mask frame a entries picture n out mid out' at end em ea en ee ep 
 module _ (z : Size) (k : Settings) (mask : List ℕ) (l : Lent) (out : ℕ)
     (ready : Ready z k mask (length l.frame) (length l.map) (length l.picture) (length l.work) out)
     (r : Result Finding Refusal) (work' : List ℤ) (found : Lights z k mask l.frame l.work r work') where
-  pub lit : IsOk r
-  lit = not_refused (no_light z k mask l.frame l.work) _ r found.answer (accept_light z k mask _ _ _ _ out ready)
+  pub light_done : IsOk r
+  light_done = not_refused (no_light z k mask l.frame l.work) _ r found.answer (accept_light z k mask _ _ _ _ out ready)
 
   module _ (f : Finding) (q : r ≡ Ok f) (kept : length work' ≡ length l.work) where
     light_is : f ≡ finding z k mask l.frame

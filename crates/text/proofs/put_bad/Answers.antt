@@ -5,9 +5,8 @@ use Rattle.text.proofs.Writing.{bad_most}
 use Rattle.text.proofs.put_bad.Goals as goal
 
 pub put_row-requires : goal.put_row-requires
-put_row-requires c =
-    omega (arith, c.requires, bad_most c.args.number c.args.line c.ranges.number.fits c.ranges.line.fits)
+put_row-requires c = omega (arith, c.requires, bad_most _ c.args.fault.line (omega (arith, c.from.ensures)) (omega arith))
 
 pub returns : goal.returns
 unfolding bad_line
-returns c = c.put_row.ensures
+returns c = rw (c.from.ensures, c.from-number.ensures) at c.put_row.ensures

@@ -11,10 +11,8 @@ use Rattle.text.proofs.put_light.Goals as goal
 use Rattle.text.proofs.put_light.Goals.{After-numbers-1}
 
 -- the line fits
-fits : (c : After-numbers-1) → let a = c.args.a in length (row (bytes "light") (a.r ∷ a.g ∷ a.b ∷ [])) ≤ 18
-fits c =
-    let a = c.args.a in
-    light_most a.r a.g a.b (omega arith) (omega arith) (omega arith)
+fits : (c : After-numbers-1) → length (row (bytes "light") (c.from.result ∷ c.from-2.result ∷ c.from-3.result ∷ [])) ≤ 18
+fits c = light_most _ _ _ (omega (arith, c.from.ensures)) (omega (arith, c.from-2.ensures)) (omega (arith, c.from-3.ensures))
 
 pub put_row-requires : goal.put_row-requires
 put_row-requires c = omega (arith, fits (goal.at.put_row-requires c).After-numbers-1, c.requires)
@@ -23,4 +21,4 @@ pub returns : goal.returns
 unfolding light_line
 returns c =
     let w = c.put_row.ensures in
-    (w, omega (arith, w.ends, fits (goal.at.returns c).After-numbers-1))
+    (rw (c.from.ensures, c.from-2.ensures, c.from-3.ensures) at w, omega (arith, w.ends, fits (goal.at.returns c).After-numbers-1))

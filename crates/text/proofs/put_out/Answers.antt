@@ -11,9 +11,9 @@ use Rattle.text.proofs.put_out.Goals as goal
 use Rattle.text.proofs.put_out.Goals.{After-numbers-1}
 
 -- the line fits
-fits : (c : After-numbers-1) → let a = c.args in length (row (bytes "out") (a.t ∷ a.r ∷ a.g ∷ a.b ∷ [])) ≤ 22
+fits : (c : After-numbers-1) → length (row (bytes "out") (c.from.result ∷ c.from-2.result ∷ c.from-3.result ∷ c.from-4.result ∷ [])) ≤ 22
 fits c =
-    out_most c.args.t c.args.r c.args.g c.args.b c.ranges.t.fits c.ranges.r.fits c.ranges.g.fits c.ranges.b.fits
+    out_most _ _ _ _ (omega (arith, c.from.ensures)) (omega (arith, c.from-2.ensures)) (omega (arith, c.from-3.ensures)) (omega (arith, c.from-4.ensures))
 
 pub put_row-requires : goal.put_row-requires
 put_row-requires c = omega (arith, fits (goal.at.put_row-requires c).After-numbers-1, c.requires)
@@ -22,4 +22,4 @@ pub returns : goal.returns
 unfolding out_line
 returns c =
     let w = c.put_row.ensures in
-    (w, omega (arith, w.ends, fits (goal.at.returns c).After-numbers-1))
+    (rw (c.from.ensures, c.from-2.ensures, c.from-3.ensures, c.from-4.ensures) at w, omega (arith, w.ends, fits (goal.at.returns c).After-numbers-1))
