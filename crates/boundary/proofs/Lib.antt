@@ -1,3 +1,4 @@
 -- The laws of the one promise.
 pub mod Unique
+pub mod Most
 pub mod Told

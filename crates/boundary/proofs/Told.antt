@@ -1,36 +1,56 @@
 -- From what a public call answers to the one promise: the number that the answer says is returned, and a value that it carries stands in the places
 -- exactly when that is 0. Assumes nothing.
 use mathlib.Core.Path.{◌≡◌, refl, ap, ◌∙◌}
-use Prim.Native.Nat.{ℕ, zero, suc}
-use Rattle.rules.specs.declared.Answer.{Answer}
-use Rattle.rules.specs.Promise.{or, answered, said, unless}
-use Rattle.rules.proofs.Answers.{said_answered, or_said, or_left}
+use Prim.Native.Nat.{ℕ, zero, suc, ◌≤◌}
+use Rattle.std.specs.Prelude.{Result}
+use Rattle.rules.specs.declared.Figure.{Figure}
+use Rattle.rules.specs.declared.Refusal.{Refusal}
+use Rattle.rules.specs.declared.Band.{Band}
+use Rattle.rules.specs.Answers.{or, said, left}
+use Rattle.rules.specs.Promise.{figure_or, band_said, unless}
+use Rattle.rules.proofs.Answers.{said_or, left_or, said_band}
+use Rattle.boundary.specs.Handed.{figure_after}
 use Rattle.boundary.specs.Returns.{Returns}
 
 -- an answer with no value
 pub answered_returns :
-    {A : Type 0} (refusal : ℕ) (new old m : A) {r : Answer} {n : ℕ}
-    → r ≡ answered refusal
+    {A : Type 0} (refusal : ℕ) (new old m : A) {r : Result (Unit {0}) Refusal} {n : ℕ}
+    → refusal ≤ 15
+    → r ≡ or refusal tt
     → m ≡ unless refusal new old
     → n ≡ said r
     → Returns refusal new old n m
-answered_returns refusal new old m e after told = record { number = told ∙ ap said e ∙ said_answered refusal; after = after }
+answered_returns refusal new old m most e after told = record { number = told ∙ ap said e ∙ said_or refusal tt most; after = after }
 
--- An answer with a value, in the case `ok` or `bad`: `says` is its number, `leaves` what stands in the places after it, by what stood there.
-module _
-    {A B : Type 0} (ok : B → A) (bad : ℕ → A) (says : A → ℕ) (leaves : A → B → B)
-    (ok_says : (v : B) → says (ok v) ≡ 0) (bad_says : (n : ℕ) → says (bad n) ≡ n)
-    (ok_leaves : (v old : B) → leaves (ok v) old ≡ v) (bad_leaves : (n : ℕ) (old : B) → leaves (bad n) old ≡ old) where
-  pub valued_returns :
-      (refusal : ℕ) (new old : B) {r : A} {n : ℕ} {m : B}
-      → r ≡ or ok bad refusal new
-      → (n ≡ says r) × (m ≡ leaves r old)
-      → Returns refusal new old n m
-  valued_returns refusal new old e told =
-      record {
-        number = told.0 ∙ ap says e ∙ or_said ok bad says ok_says bad_says refusal new;
-        after = told.1 ∙ ap (λ (a : A). leaves a old) e ∙ or_left ok bad leaves ok_leaves bad_leaves refusal new old;
-      }
+-- an answer with a value
+pub valued_returns :
+    {A : Type 0} (refusal : ℕ) (new old : A) {r : Result A Refusal} {n : ℕ} {m : A}
+    → refusal ≤ 15
+    → r ≡ or refusal new
+    → (n ≡ said r) × (m ≡ left r old)
+    → Returns refusal new old n m
+valued_returns {A} refusal new old most e told =
+    record {
+      number = told.0 ∙ ap said e ∙ said_or refusal new most;
+      after = told.1 ∙ ap (λ (r : Result A Refusal). left r old) e ∙ left_or refusal new old;
+    }
+
+-- that of Band figure
+figure_left : (n : ℕ) (new old : Figure) → figure_after (figure_or n new) old ≡ unless n new old
+figure_left zero new old = refl
+figure_left (suc n) new old = refl
+
+pub figured_returns :
+    (refusal : ℕ) (new old : Figure) {r : Band} {n : ℕ} {m : Figure}
+    → refusal ≤ 15
+    → r ≡ figure_or refusal new
+    → (n ≡ band_said r) × (m ≡ figure_after r old)
+    → Returns refusal new old n m
+figured_returns refusal new old most e told =
+    record {
+      number = told.0 ∙ ap band_said e ∙ said_band refusal new most;
+      after = told.1 ∙ ap (λ (r : Band). figure_after r old) e ∙ figure_left refusal new old;
+    }
 
 -- ---- a place more
 

@@ -5,11 +5,7 @@ use Rattle.rules.specs.declared.Settings.{Settings}
 use Rattle.rules.specs.declared.Rgb.{Rgb}
 use Rattle.rules.specs.declared.Rect.{Rect}
 use Rattle.rules.specs.declared.Figure.{Figure}
-use Rattle.rules.specs.declared.Outcome.{Outcome}
-use Rattle.rules.specs.declared.Outcome.TheVariants as outcome
 use Rattle.rules.specs.declared.Finding.{Finding}
-use Rattle.rules.specs.declared.Found.{Found}
-use Rattle.rules.specs.declared.Found.TheVariants as found
 use Rattle.rules.specs.declared.Band.{Band}
 use Rattle.rules.specs.declared.Band.TheVariants as band
 use Rattle.rules.specs.Setup.{Setup, handed}
@@ -40,17 +36,7 @@ setup_in w h settings lights mask = handed (size w h) (settings_in settings) (rg
 
 -- ---- places for results
 
--- what stands in the place of the comparisons after an answer of Clear or Replace
-abbrev pub count_after : Outcome → ℕ → ℕ
-count_after (outcome.Done c) old = c
-count_after (outcome.Refused n) old = old
-
--- in those of a light and its comparisons after an answer of Light
-abbrev pub finding_after : Found → Finding → Finding
-finding_after (found.Light f) old = f
-finding_after (found.Refused n) old = old
-
--- and in those of a figure after an answer of Band figure
+-- what stands in those of a figure after an answer of Band figure
 abbrev pub figure_after : Band → Figure → Figure
 figure_after (band.Figure f) old = f
-figure_after (band.Refused n) old = old
+figure_after (band.Refused e) old = old

@@ -3,10 +3,11 @@
 #![tactic(auto)]
 
 ghost use Rattle.std.specs.Prelude.{◌≡◌};
-ghost use Rattle.rules.specs.Promise.{said, outcome_said, found_said, band_said};
-ghost use Rattle.boundary.specs.Handed.{size, settings_in, rgb_in, rect_in, figure_in, finding_in, count_after, finding_after, figure_after};
+ghost use Rattle.rules.specs.Answers.{said, left};
+ghost use Rattle.rules.specs.Promise.{band_said};
+ghost use Rattle.boundary.specs.Handed.{size, settings_in, rgb_in, rect_in, figure_in, finding_in, figure_after};
 
-use rules::{Answer, Band, Found, Outcome, Rect, Rgb, Settings, Size};
+use rules::{Band, Finding, Rect, Refusal, Rgb, Settings, Size};
 
 // ---- what is handed over
 
@@ -60,41 +61,35 @@ pub fn rect_in(from: &[u64; 4]) -> Rect
 // ---- what is handed back
 
 // The number that an answer says.
-pub fn number(answer: Answer) -> u8
+pub fn number<T: Copy>(answer: Result<T, Refusal>) -> u8
     ensures { result ≡ said answer }
 {
     match answer {
-        Answer::Done => 0,
-        Answer::Refused(n) => n,
+        Ok(_) => 0,
+        Err(refusal) => u8::from(refusal),
     }
 }
 
 // The number that an answer of Clear or Replace says; the comparisons of a call that is done go into the place.
-pub fn counted(outcome: Outcome, comparisons: &mut u64) -> u8
-    ensures { (result ≡ outcome_said outcome) × (comparisons.new ≡ count_after outcome comparisons.old) }
+pub fn counted(outcome: Result<u64, Refusal>, comparisons: &mut u64) -> u8
+    ensures { (result ≡ said outcome) × (comparisons.new ≡ left outcome comparisons.old) }
 {
-    match outcome {
-        Outcome::Done(count) => {
-            *comparisons = count;
-            0
-        }
-        Outcome::Refused(n) => n,
+    if let Ok(count) = outcome {
+        *comparisons = count;
     }
+    number(outcome)
 }
 
 // The number that Light's answer says; a light that was found and its comparisons go into the two places.
-pub fn lit(found: Found, lights: &mut [u8; 3], comparisons: &mut u64) -> u8
-    ensures { (result ≡ found_said found)
-        × (finding_in lights.new comparisons.new ≡ finding_after found (finding_in lights.old comparisons.old)) }
+pub fn lit(found: Result<Finding, Refusal>, lights: &mut [u8; 3], comparisons: &mut u64) -> u8
+    ensures { (result ≡ said found)
+        × (finding_in lights.new comparisons.new ≡ left found (finding_in lights.old comparisons.old)) }
 {
-    match found {
-        Found::Light(f) => {
-            *lights = [f.light.r, f.light.g, f.light.b];
-            *comparisons = f.comparisons;
-            0
-        }
-        Found::Refused(n) => n,
+    if let Ok(f) = found {
+        *lights = [f.light.r, f.light.g, f.light.b];
+        *comparisons = f.comparisons;
     }
+    number(found)
 }
 
 // The number that Band figure's answer says; the figure goes into the two places.
@@ -108,6 +103,6 @@ pub fn figured(band: Band, mean: &mut f64, least: &mut f64) -> u8
             *least = f.least;
             0
         }
-        Band::Refused(n) => n,
+        Band::Refused(refusal) => u8::from(refusal),
     }
 }

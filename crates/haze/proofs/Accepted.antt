@@ -1,10 +1,19 @@
 -- What a call that is not refused is given and lent. Assumes nothing.
+use mathlib.Core.Path.{◌≡◌, sym, ap, ◌∙◌}
+use Prim.Native.Nat.{ℕ}
+use Rattle.std.specs.Prelude.{Result, Ok}
+use Rattle.rules.specs.declared.Refusal.{Refusal}
+use Rattle.rules.specs.Answers.{said}
 use Rattle.rules.specs.Setup.{Setup, shape}
 use Rattle.rules.specs.Promise.{Lent}
 use Rattle.rules.proofs.Box.{whole_fits}
 use Rattle.refusals.proofs.Accepted.{AcceptedClear}
 use Rattle.planes.specs.Stage.{Given}
 use Rattle.clearing.specs.Call.{Loan}
+
+-- its refusal number is 0
+pub free : {m : ℕ} {r : Result (Unit {0}) Refusal} {u : Unit {0}} → said r ≡ m → r ≡ Ok u → m ≡ 0
+free told is = sym told ∙ ap said is
 
 module _ (p : Setup) (l : Lent) (n : AcceptedClear p l) where
   -- the frame, as a box of its own

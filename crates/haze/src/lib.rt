@@ -5,17 +5,21 @@ ghost use Rattle.std.specs.Prelude.{ℕ};
 ghost use Rattle.rules.specs.Setup.{handed};
 ghost use Rattle.rules.specs.Promise.{lent_of, Lights, Clears, Replaces, Hazes, Bands, Budgets};
 
-use rules::{Answer, Band, Found, Outcome, Rect, Rgb, Settings, Size};
+use refusals::Lengths;
+use rules::{Band, Finding, Rect, Refusal, Rgb, Settings, Size};
 
 // Light: the ambient light of a frame, and how many comparisons the dark channel took.
-pub fn light(z: Size, k: Settings, mask: &[u8], frame: &[u8], work: &mut [i64]) -> Found
+pub fn light(
+    z: Size,
+    k: Settings,
+    mask: &[u8],
+    frame: &[u8],
+    work: &mut [i64],
+) -> Result<Finding, Refusal>
     ensures { Lights z k mask.now frame.now work.old result work.new }
 {
-    let n = refusals::refuse_light(z, k, mask, frame.len(), work.len());
-    if n != 0 {
-        return Found::Refused(n);
-    }
-    Found::Light(light::find(z, k, mask, frame, work))
+    refusals::refuse_light(z, k, mask, frame.len(), work.len())?;
+    Ok(light::find(z, k, mask, frame, work))
 }
 
 // Clear: the transmission map and the cleared frame, and how many comparisons the dark channel took.
@@ -28,26 +32,21 @@ pub fn clear(
     map: &mut [u16],
     picture: &mut [u8],
     work: &mut [i64],
-) -> Outcome
+) -> Result<u64, Refusal>
     ensures { Clears (handed z k a mask.now)
         (lent_of frame.now map.old picture.old work.old) result
         (lent_of frame.now map.new picture.new work.new) }
 {
-    let n = refusals::refuse_clear(
-        z,
-        k,
-        a,
-        mask.len(),
-        frame.len(),
-        map.len(),
-        picture.len(),
-        work.len(),
-    );
-    if n != 0 {
-        return Outcome::Refused(n);
-    }
+    let lent = Lengths {
+        mask: mask.len(),
+        frame: frame.len(),
+        map: map.len(),
+        picture: picture.len(),
+        work: work.len(),
+    };
+    refusals::refuse_clear(z, k, a, lent)?;
     let count = clearing::clear_whole(map, picture, mask, frame, work, z, k, a);
-    Outcome::Done(count as u64)
+    Ok(count as u64)
 }
 
 // Replace: the new pixels go into the frame, and map and cleared frame are brought up to date.
@@ -62,51 +61,40 @@ pub fn replace(
     map: &mut [u16],
     picture: &mut [u8],
     work: &mut [i64],
-) -> Outcome
+) -> Result<u64, Refusal>
     ensures { Replaces (handed z k a mask.now) c new.now
         (lent_of frame.old map.old picture.old work.old) result
         (lent_of frame.new map.new picture.new work.new) }
 {
-    let n = refusals::refuse_replace(
-        z,
-        k,
-        a,
-        c,
-        new.len(),
-        mask.len(),
-        frame.len(),
-        map.len(),
-        picture.len(),
-        work.len(),
-    );
-    if n != 0 {
-        return Outcome::Refused(n);
-    }
+    let lent = Lengths {
+        mask: mask.len(),
+        frame: frame.len(),
+        map: map.len(),
+        picture: picture.len(),
+        work: work.len(),
+    };
+    refusals::refuse_replace(z, k, a, c, new.len(), lent)?;
     let count = clearing::replace_whole(mask, frame, map, picture, work, z, k, a, c, new);
-    Outcome::Done(count as u64)
+    Ok(count as u64)
 }
 
 // Haze: clean frame, light and transmission map in; hazy frame out.
-pub fn haze(z: Size, a: Rgb, clean: &[u8], map: &[u16], hazed: &mut [u8]) -> Answer
+pub fn haze(z: Size, a: Rgb, clean: &[u8], map: &[u16], hazed: &mut [u8]) -> Result<(), Refusal>
     ensures { Hazes z a clean.now map.now hazed.old result hazed.new }
 {
-    let n = refusals::refuse_haze(z, a, clean.len(), map, hazed.len());
-    if n != 0 {
-        return Answer::Refused(n);
-    }
+    refusals::refuse_haze(z, a, clean.len(), map, hazed.len())?;
     adding::add(z, a, clean, map, hazed);
-    Answer::Done
+    Ok(())
 }
 
 // Band figure: mean and least transmission of the rows from .. to, the last left out.
 pub fn band(z: Size, map: &[u16], from: usize, to: usize) -> Band
     ensures { Bands z map.now from to result }
 {
-    let n = refusals::refuse_band(z, map, from, to);
-    if n != 0 {
-        return Band::Refused(n);
+    match refusals::refuse_band(z, map, from, to) {
+        Ok(()) => Band::Figure(bands::figure(z, map, from, to)),
+        Err(refusal) => Band::Refused(refusal),
     }
-    Band::Figure(bands::figure(z, map, from, to))
 }
 
 // Budget: how many comparisons the dark channel takes for a frame of this size at radius s; 0 for a size or radius that is refused.

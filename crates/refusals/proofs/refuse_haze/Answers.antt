@@ -1,52 +1,12 @@
--- `refusals::refuse_haze` meets its contract: a size that is refused, or else the tests after it, joined by equations. Assumes nothing.
-use mathlib.Core.Path.{◌≡◌, sym, ◌∙◌}
-use mathlib.Core.Bool.{false}
-use Rattle.rules.specs.Refusals.{bad_size, refuse_haze}
-use Rattle.rules.proofs.Good.{size_good}
+-- `refusals::refuse_haze` meets its contract. Assumes nothing.
+use Rattle.refusals.proofs.Passed.{size_passed}
 use Rattle.refusals.proofs.refuse_haze.Goals as goal
-use Rattle.refusals.proofs.refuse_haze.Goals.{Else-wrong_size}
-
-small : (c : Else-wrong_size) → bad_size c.args.z ≡ false
-small c = sym c.wrong_size.ensures ∙ c.if-wrong_size.false
-
-pub wrong_size-requires : goal.wrong_size-requires
-wrong_size-requires c = tt
-
-pub returns-then-wrong_size : goal.returns-then-wrong_size
-unfolding refuse_haze
-returns-then-wrong_size c = rw (sym c.wrong_size.ensures ∙ c.if-wrong_size.true)
-
-pub wrong_frame-bytes-requires : goal.wrong_frame-bytes-requires
-wrong_frame-bytes-requires c = size_good _ (small (goal.at.wrong_frame-bytes-requires c).Else-wrong_size)
 
 pub wrong_frame-requires : goal.wrong_frame-requires
-wrong_frame-requires c = size_good _ (small (goal.at.wrong_frame-requires c).Else-wrong_size)
+wrong_frame-requires c = size_passed c.wrong_size.ensures c.refuse.ensures c.in_ok-refuse.was
+
+pub wrong_frame-requires-2 : goal.wrong_frame-requires-2
+wrong_frame-requires-2 c = size_passed c.wrong_size.ensures c.refuse.ensures c.in_ok-refuse.was
 
 pub wrong_map-requires : goal.wrong_map-requires
-wrong_map-requires c = size_good _ (small (goal.at.wrong_map-requires c).Else-wrong_size)
-
-pub either-lengths-requires : goal.either-lengths-requires
-either-lengths-requires c = tt
-
-pub wrong_light-light-requires : goal.wrong_light-light-requires
-wrong_light-light-requires c = tt
-
-pub wrong_entries-entries-requires : goal.wrong_entries-entries-requires
-wrong_entries-entries-requires c = tt
-
-pub first_of-requires : goal.first_of-requires
-first_of-requires c = tt
-
-pub returns : goal.returns
-unfolding refuse_haze
-returns c =
-    rw (
-      small (goal.at.returns c).Else-wrong_size,
-      c.first_of.ensures,
-      c.wrong_entries-entries.ensures,
-      c.wrong_light-light.ensures,
-      c.either-lengths.ensures,
-      c.wrong_map.ensures,
-      c.wrong_frame.ensures,
-      c.wrong_frame-bytes.ensures,
-    )
+wrong_map-requires c = size_passed c.wrong_size.ensures c.refuse.ensures c.in_ok-refuse.was

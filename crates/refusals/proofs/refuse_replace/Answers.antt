@@ -1,46 +1,32 @@
--- `refusals::refuse_replace` meets its contract: its tests are Clear's, then those of the rectangle. Assumes nothing.
-use mathlib.Core.Path.{◌≡◌, refl, sym, ◌∙◌}
-use Prim.Native.Nat.{ℕ}
+-- `refusals::refuse_replace` meets its contract: its tests are Clear's, then those of the rectangle, and the product is formed only of a rectangle inside
+-- the frame. Assumes nothing.
+use mathlib.Core.Path.{◌≡◌, refl, sym, ap, ◌∙◌}
+use Prim.Native.Nat.{ℕ, ◌*◌, ◌≤◌}
+use native.Mathlib.Omega.{arith}
 use Rattle.rules.specs.declared.Size.{Size}
 use Rattle.rules.specs.declared.Settings.{Settings}
 use Rattle.rules.specs.declared.Rgb.{Rgb}
-use Rattle.rules.specs.declared.Rect.{Rect}
-use Rattle.rules.specs.Refusals.{first, tests_clear, refuse_clear, refuse_replace}
+use Rattle.rules.specs.Shape.{described}
+use Rattle.rules.specs.Good.{GoodSize}
+use Rattle.rules.specs.Answers.{said}
+use Rattle.rules.specs.Refusals.{tests_clear, refuse_clear}
 use Rattle.rules.proofs.Good.{size_good}
-use Rattle.rules.proofs.Exactly.{None, accepted, joined_some, joined_none}
-use Rattle.refusals.specs.Past.{rest_replace}
+use Rattle.rules.proofs.Exactly.{accepted}
+use Rattle.refusals.proofs.Passed.{passed, rect_small}
 use Rattle.refusals.proofs.refuse_replace.Goals as goal
+use Rattle.refusals.proofs.refuse_replace.Goals.{In_ok-refuse}
 
-module _ (z : Size) (k : Settings) (a : Rgb) (c : Rect) (new mask frame map picture work : ℕ) where
-  early : (n : ℕ) → n ≡ refuse_clear z k a mask frame map picture work → (n ≡ 0 → ⊥) → n ≡ refuse_replace z k a c new mask frame map picture work
-  unfolding refuse_clear refuse_replace
-  early n e h = joined_some (tests_clear z k a mask frame map picture work) (rest_replace z c new) n e h
+good : (z : Size) (k : Settings) (a : Rgb) (mask frame map picture work : ℕ) → refuse_clear z k a mask frame map picture work ≡ 0 → GoodSize (described z)
+unfolding refuse_clear
+good z k a mask frame map picture work e = size_good z (accepted (tests_clear z k a mask frame map picture work) refl e).0
 
-  free : refuse_clear z k a mask frame map picture work ≡ 0 → None (tests_clear z k a mask frame map picture work)
-  unfolding refuse_clear
-  free e = accepted (tests_clear z k a mask frame map picture work) refl e
+small : (c : In_ok-refuse) → let s = c.args in s.c.w * s.c.h ≤ 262144
+small c =
+    let free = sym c.refuse_clear.ensures ∙ ap said c.in_ok-refuse_clear.was in
+    rect_small _ _ (good _ _ _ _ _ _ _ _ free) (sym c.wrong_rect.ensures ∙ passed _ _ _ (sym c.refuse.ensures ∙ c.in_ok-refuse.was))
 
-  late : refuse_clear z k a mask frame map picture work ≡ 0 → first (rest_replace z c new) ≡ refuse_replace z k a c new mask frame map picture work
-  unfolding refuse_replace
-  late e = sym (joined_none (tests_clear z k a mask frame map picture work) (rest_replace z c new) (free e))
+pub overflow_mul-c : goal.overflow_mul-c
+overflow_mul-c c = omega (arith, small (goal.at.overflow_mul-c c).In_ok-refuse)
 
-pub refuse_clear-n-requires : goal.refuse_clear-n-requires
-refuse_clear-n-requires c = tt
-
-pub returns-then-n-ne0 : goal.returns-then-n-ne0
-returns-then-n-ne0 c =
-    let s = c.args in
-    early s.z s.k s.a s.c s.new s.mask s.frame s.map s.picture s.work _ c.refuse_clear-n.ensures c.if-n-ne0.true
-
-pub refuse_rect-requires : goal.refuse_rect-requires
-refuse_rect-requires c =
-    let s = c.args in
-    size_good
-    s.z
-    (free s.z s.k s.a s.c s.new s.mask s.frame s.map s.picture s.work (sym c.refuse_clear-n.ensures ∙ c.if-n-ne0.false)).0
-
-pub returns : goal.returns
-returns c =
-    let s = c.args in
-    c.refuse_rect.ensures
-    ∙ late s.z s.k s.a s.c s.new s.mask s.frame s.map s.picture s.work (sym c.refuse_clear-n.ensures ∙ c.if-n-ne0.false)
+pub overflow_mul-c-2 : goal.overflow_mul-c-2
+overflow_mul-c-2 c = omega (arith, small (goal.at.overflow_mul-c-2 c).In_ok-refuse)
