@@ -1,11 +1,13 @@
 // The six calls on lent parts of the buffers.
-use crate::line::{at_most, past};
+use crate::Buffers;
+use crate::command::Call;
+use crate::line::{front, part};
 use rules::{Rect, Rgb, Settings, Size};
 use std::io;
 use std::io::Write;
-use telling::{
-    say_answer, say_band, say_budget, say_bytes, say_entries, say_found, say_kinds, say_outcome,
-};
+use telling::{kind, say_answer, say_band, say_budget, say_count, say_entries, say_finding};
+
+// ---- what the numbers of a line say
 
 fn size(args: &[u64; 24]) -> Size {
     Size {
@@ -25,7 +27,7 @@ fn settings(args: &[u64; 24]) -> Settings {
     }
 }
 
-fn light_given(args: &[u64; 24]) -> Rgb {
+fn light(args: &[u64; 24]) -> Rgb {
     Rgb {
         r: (args[9] % 256) as u8,
         g: (args[10] % 256) as u8,
@@ -42,146 +44,92 @@ fn rect(args: &[u64; 24]) -> Rect {
     }
 }
 
-fn light(
-    out: &mut impl Write,
-    args: &[u64; 24],
-    mask: &[u8],
-    frame: &[u8],
-    work: &mut [i64],
-) -> io::Result<()> {
-    say_found(
-        out,
-        haze::light(size(args), settings(args), mask, frame, work),
-    )
-}
+// ---- the call
 
-fn clear(
-    out: &mut impl Write,
-    args: &[u64; 24],
-    mask: &[u8],
-    frame: &[u8],
-    map: &mut [u16],
-    picture: &mut [u8],
-    work: &mut [i64],
-) -> io::Result<()> {
-    let z = size(args);
-    let k = settings(args);
-    let a = light_given(args);
-    say_outcome(out, haze::clear(z, k, a, mask, frame, map, picture, work))
-}
-
-fn replace(
-    out: &mut impl Write,
-    args: &[u64; 24],
-    new: &[u8],
-    mask: &[u8],
-    frame: &mut [u8],
-    map: &mut [u16],
-    picture: &mut [u8],
-    work: &mut [i64],
-) -> io::Result<()> {
-    let z = size(args);
-    let k = settings(args);
-    let a = light_given(args);
-    let c = rect(args);
-    say_outcome(
-        out,
-        haze::replace(z, k, a, c, new, mask, frame, map, picture, work),
-    )
-}
-
-fn haze(
-    out: &mut impl Write,
-    args: &[u64; 24],
-    frame: &[u8],
-    map: &[u16],
-    picture: &mut [u8],
-) -> io::Result<()> {
-    say_answer(
-        out,
-        haze::haze(size(args), light_given(args), frame, map, picture),
-    )
-}
-
-fn band(out: &mut impl Write, args: &[u64; 24], map: &[u16]) -> io::Result<()> {
-    let c = rect(args);
-    say_band(out, haze::band(size(args), map, c.x, c.y))
-}
-
-fn budget(out: &mut impl Write, args: &[u64; 24]) -> io::Result<()> {
-    say_budget(out, haze::comparisons(size(args), args[3] as usize))
-}
-
-// The call, on the lent parts.
-fn call(
-    out: &mut impl Write,
-    args: &[u64; 24],
-    mask: &[u8],
-    frame: &mut [u8],
-    new: &[u8],
-    map: &mut [u16],
-    picture: &mut [u8],
-    work: &mut [i64],
-) -> io::Result<()> {
-    let command = args[0];
-    match command {
-        1 => light(out, args, mask, frame, work),
-        3 => replace(out, args, new, mask, frame, map, picture, work),
-        4 => haze(out, args, frame, map, picture),
-        5 => band(out, args, map),
-        8 => budget(out, args),
-        _ => clear(out, args, mask, frame, map, picture, work),
-    }
-}
-
-// The call, and what the lent parts hold after it.
-fn report(
-    out: &mut impl Write,
-    args: &[u64; 24],
-    mask: &[u8],
-    frame: &mut [u8],
-    new: &[u8],
-    map: &mut [u16],
-    picture: &mut [u8],
-    work: &mut [i64],
-) -> io::Result<()> {
-    call(out, args, mask, frame, new, map, picture, work)?;
-    say_bytes(out, mask)?;
-    say_bytes(out, frame)?;
-    say_bytes(out, new)?;
-    say_entries(out, map)?;
-    say_bytes(out, picture)?;
-    say_kinds(out, work)?;
-    out.write_all(b"\n")
+// What a call is lent.
+#[derive(Drop)]
+struct Lent<'a> {
+    mask: &'a [u8],
+    frame: &'a mut [u8],
+    new: &'a [u8],
+    map: &'a mut [u16],
+    picture: &'a mut [u8],
+    work: &'a mut [i64],
 }
 
 // Lends as much of each buffer as asked for: of map and picture from any entry on, of the others from the first.
-pub(crate) fn lend(
+fn lend<'a>(buffers: &'a mut Buffers, args: &[u64; 24]) -> Lent<'a> {
+    let Buffers {
+        mask,
+        frame,
+        new,
+        map,
+        picture,
+        work,
+    } = buffers;
+    Lent {
+        mask: front(mask, args, 23),
+        frame: front(frame, args, 16),
+        new: front(new, args, 17),
+        map: part(map, args, 21, 18),
+        picture: part(picture, args, 22, 19),
+        work: front(work, args, 20),
+    }
+}
+
+// The call on the lent parts, and its answer.
+fn say_call(out: &mut impl Write, call: Call, args: &[u64; 24], lent: Lent<'_>) -> io::Result<()> {
+    let Lent {
+        mask,
+        frame,
+        new,
+        map,
+        picture,
+        work,
+    } = lent;
+    let z = size(args);
+    let k = settings(args);
+    let a = light(args);
+    let c = rect(args);
+    match call {
+        Call::Light => say_finding(out, haze::light(z, k, mask, frame, work)),
+        Call::Clear => say_count(out, haze::clear(z, k, a, mask, frame, map, picture, work)),
+        Call::Replace => say_count(
+            out,
+            haze::replace(z, k, a, c, new, mask, frame, map, picture, work),
+        ),
+        Call::Haze => say_answer(out, haze::haze(z, a, frame, map, picture)),
+        Call::Band => say_band(out, haze::band(z, map, c.x, c.y)),
+        Call::Budget => say_budget(out, haze::comparisons(z, k.s)),
+    }
+}
+
+// What the lent parts hold.
+fn say_lent(out: &mut impl Write, lent: Lent<'_>) -> io::Result<()> {
+    let Lent {
+        mask,
+        frame,
+        new,
+        map,
+        picture,
+        work,
+    } = lent;
+    say_entries(out, mask, u64::from)?;
+    say_entries(out, frame, u64::from)?;
+    say_entries(out, new, u64::from)?;
+    say_entries(out, map, u64::from)?;
+    say_entries(out, picture, u64::from)?;
+    say_entries(out, work, kind)
+}
+
+// The call, and what the lent parts hold after it.
+pub(crate) fn report(
     out: &mut impl Write,
+    call: Call,
     args: &[u64; 24],
-    mask: &[u8],
-    frame: &mut [u8],
-    new: &[u8],
-    map: &mut [u16],
-    picture: &mut [u8],
-    work: &mut [i64],
+    buffers: &mut Buffers,
 ) -> io::Result<()> {
-    let s = at_most(args, 23, mask.len());
-    let f = at_most(args, 16, frame.len());
-    let n = at_most(args, 17, new.len());
-    let m = at_most(args, 21, map.len());
-    let m_end = past(args, 18, m, map.len());
-    let p = at_most(args, 22, picture.len());
-    let p_end = past(args, 19, p, picture.len());
-    let q = at_most(args, 20, work.len());
-    report(
-        out,
-        args,
-        &mask[..s],
-        &mut frame[..f],
-        &new[..n],
-        &mut map[m..m_end],
-        &mut picture[p..p_end],
-        &mut work[..q],
-    )
+    say_call(out, call, args, lend(buffers, args))?;
+    say_lent(out, lend(buffers, args))?;
+    out.write_all(b"\n")
 }

@@ -1,70 +1,77 @@
-// The decimal numbers of a line.
+// The decimal numbers of a line, and the parts of a buffer that they name.
 ghost use Rattle.std.specs.Prelude.{◌≤◌, ◌<◌};
 
-fn is_digit(b: u8) -> bool {
-    b'0' <= b && b <= b'9'
-}
-
 // The number v with one digit more; a number that grows past 64 bits stays as it is.
-fn with_digit(v: u64, b: u8) -> u64 {
-    let d = (b % 16) as u64;
-    if v <= (18446744073709551615 - d) / 10 {
-        v * 10 + d
-    } else {
-        v
-    }
+fn with_digit(v: u64, digit: u8) -> u64 {
+    v.checked_mul(10)
+        .and_then(|tens| tens.checked_add(u64::from(digit)))
+        .unwrap_or(v)
 }
 
-// How far a line is read: the number that is being read, and how many stand before it.
-#[derive(Clone, Copy)]
+// How far a line is read: the numbers that are ended, how many they are, and the number that is being read.
+#[derive(Drop)]
 struct Reading {
-    value: u64,
+    numbers: [u64; 24],
     count: usize,
+    value: u64,
 }
 
-// One byte more: a digit goes to the number, any other byte ends it. Numbers past the last place are passed over.
-fn step(args: &mut [u64; 24], t: Reading, b: u8) -> Reading {
-    if is_digit(b) {
-        return Reading {
-            value: with_digit(t.value, b),
-            count: t.count,
-        };
-    }
-    let k = t.count;
-    if k < 24 {
-        args[k] = t.value;
-        Reading {
-            value: 0,
-            count: k + 1,
+impl Reading {
+    // One byte more: a digit goes to the number, any other byte ends it. Numbers past the last place are passed over.
+    fn step(&mut self, b: u8) {
+        match b {
+            b'0'..=b'9' => {
+                self.value = with_digit(self.value, b - b'0');
+            }
+            _ => {
+                if self.count < 24 {
+                    self.numbers[self.count] = self.value;
+                    self.count += 1;
+                    self.value = 0;
+                }
+            }
         }
-    } else {
-        t
     }
 }
 
 // The numbers of a line, in order, and 0 where there are no more.
-pub(crate) fn numbers(text: &[u8]) -> [u64; 24] {
-    let mut args = [0u64; 24];
-    let mut t = Reading { value: 0, count: 0 };
-    for b in text {
-        t = step(&mut args, t, *b);
+pub(crate) fn numbers(line: &[u8]) -> [u64; 24] {
+    let mut reading = Reading {
+        numbers: [0; 24],
+        count: 0,
+        value: 0,
+    };
+    for b in line {
+        reading.step(*b);
     }
-    args
+    reading.numbers
 }
 
 // The k-th number, at most `most`.
-pub(crate) fn at_most(args: &[u64; 24], k: usize, most: usize) -> usize
+fn at_most(args: &[u64; 24], k: usize, most: usize) -> usize
     requires { k < 24 }
     ensures { result ≤ most }
 {
-    let n = args[k];
-    if n < most as u64 { n as usize } else { most }
+    args[k].min(most as u64) as usize
 }
 
-// The end of as many entries from `from` on as the k-th number says, at most `most`.
-pub(crate) fn past(args: &[u64; 24], k: usize, from: usize, most: usize) -> usize
-    requires { (k < 24) × (from ≤ most) }
-    ensures { (from ≤ result) × (result ≤ most) }
+// As many entries of a buffer as the k-th number says, from the first on, as far as the buffer reaches.
+pub(crate) fn front<'a, T>(buffer: &'a mut [T], args: &[u64; 24], k: usize) -> &'a mut [T]
+    requires { k < 24 }
 {
-    from + at_most(args, k, most - from)
+    let n = at_most(args, k, buffer.len());
+    &mut buffer[..n]
+}
+
+// The same, from the entry on that the number `first` says.
+pub(crate) fn part<'a, T>(
+    buffer: &'a mut [T],
+    args: &[u64; 24],
+    first: usize,
+    k: usize,
+) -> &'a mut [T]
+    requires { (first < 24) × (k < 24) }
+{
+    let from = at_most(args, first, buffer.len());
+    front(&mut buffer[from..], args, k)
 }

@@ -9,14 +9,13 @@
 // first entry and how many, and those of `fill::Pattern`; for the mask how many bytes, and those of `mask::Shown`.
 #![tactic(auto)]
 
-ghost use Rattle.std.specs.Prelude.{◌≤◌, IfOk, vec_len};
-
 mod calls;
+mod command;
 mod fill;
 mod line;
 mod mask;
 
-use std::alloc::Global;
+use command::Command;
 use std::io;
 use std::io::{BufWriter, Read, Write};
 
@@ -31,90 +30,52 @@ const WORK: usize = 137289;
 
 const MASK: usize = 16901;
 
-// The buffer that a line fills, a number below 5, 5 for the mask, or 6 where it makes a call.
-fn filled(args: &[u64; 24]) -> u64 {
-    if args[0] == 7 {
-        return 5;
-    }
-    if args[0] != 6 {
-        return 6;
-    }
-    if args[1] < 4 { args[1] } else { 4 }
+#[derive(Drop)]
+struct Buffers {
+    mask: [u8; MASK],
+    frame: [u8; PIXELS],
+    new: [u8; PIXELS],
+    map: [u16; MAPS],
+    picture: [u8; PICTURES],
+    work: [i64; WORK],
 }
 
 // Does what one line says.
-fn act(
-    out: &mut impl Write,
-    args: &[u64; 24],
-    mask: &mut [u8],
-    frame: &mut [u8],
-    new: &mut [u8],
-    map: &mut [u16],
-    picture: &mut [u8],
-    work: &mut [i64],
-) -> io::Result<()> {
-    match filled(args) {
-        0 => fill::bytes(frame, args),
-        1 => fill::bytes(new, args),
-        2 => fill::entries(map, args),
-        3 => fill::bytes(picture, args),
-        4 => fill::numbers(work, args),
-        5 => mask::show(mask, args),
-        _ => return calls::lend(out, args, mask, frame, new, map, picture, work),
+fn act(out: &mut impl Write, args: &[u64; 24], buffers: &mut Buffers) -> io::Result<()> {
+    match Command::from(args[0]) {
+        Command::Call(call) => calls::report(out, call, args, buffers),
+        Command::Fill => {
+            fill::fill(buffers, args);
+            Ok(())
+        }
+        Command::Mask => {
+            mask::show(&mut buffers.mask, args);
+            Ok(())
+        }
     }
-    Ok(())
 }
 
 // Does what each line of the text says, one after the other.
-fn run(
-    out: &mut impl Write,
-    text: &[u8],
-    mask: &mut [u8; MASK],
-    frame: &mut [u8; PIXELS],
-    new: &mut [u8; PIXELS],
-    map: &mut [u16; MAPS],
-    picture: &mut [u8; PICTURES],
-    work: &mut [i64; WORK],
-) -> io::Result<()> {
-    let mut at = 0;
-    while at < text.len() {
-        let end = fields::end_of(text, at, b'\n');
-        let next = fields::after(text, end);
-        let args = line::numbers(&text[at..next]);
-        act(out, &args, mask, frame, new, map, picture, work)?;
-        at = next;
+fn run(out: &mut impl Write, text: &[u8], buffers: &mut Buffers) -> io::Result<()> {
+    for line in text.split_inclusive(|b| *b == b'\n') {
+        act(out, &line::numbers(line), buffers)?;
     }
     Ok(())
 }
 
-// What is left to read, up to 524,288 bytes.
-fn read(alloc: Global, from: impl Read + Drop) -> io::Result<Vec<u8>>
-    ensures { IfOk result (λ text. vec_len text ≤ 524288) }
-{
-    let mut text = Vec::new(alloc);
-    from.take(524288).read_to_end(&mut text)?;
-    text.truncate(524288);
-    Ok(text)
-}
-
+// No more of the input is read than 524,288 bytes.
 fn main(rt: HostRuntime) -> io::Result<()> {
-    let text = read(rt.alloc(), rt.reader())?;
+    let mut text = Vec::new(rt.alloc());
+    rt.reader().take(524288).read_to_end(&mut text)?;
     let mut out = BufWriter::new(rt.alloc(), io::writer(&rt))?;
-    let mut mask = [0u8; MASK];
-    let mut frame = [0u8; PIXELS];
-    let mut new = [0u8; PIXELS];
-    let mut map = [0u16; MAPS];
-    let mut picture = [0u8; PICTURES];
-    let mut work = [0i64; WORK];
-    run(
-        &mut out,
-        &text,
-        &mut mask,
-        &mut frame,
-        &mut new,
-        &mut map,
-        &mut picture,
-        &mut work,
-    )?;
+    let mut buffers = Buffers {
+        mask: [0; MASK],
+        frame: [0; PIXELS],
+        new: [0; PIXELS],
+        map: [0; MAPS],
+        picture: [0; PICTURES],
+        work: [0; WORK],
+    };
+    run(&mut out, &text, &mut buffers)?;
     out.flush()
 }

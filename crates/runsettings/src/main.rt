@@ -2,9 +2,6 @@
 // A line for each call: the number of the refusal, a tab, and the part that is returned.
 #![tactic(auto)]
 
-ghost use Rattle.std.specs.Prelude.{◌≤◌, IfOk, vec_len};
-
-use std::alloc::Global;
 use std::io;
 use std::io::{BufWriter, Read, Write};
 
@@ -20,7 +17,7 @@ fn answer<'a>(
     out.write_all(b"\n")
 }
 
-// Answers each call, one after the other.
+// Answers each call, one after the other. A call is three parts, and an iterator over parts would give one at a time.
 fn run(out: &mut impl Write, input: &[u8]) -> io::Result<()> {
     let mut at = 0;
     while at < input.len() {
@@ -40,18 +37,10 @@ fn run(out: &mut impl Write, input: &[u8]) -> io::Result<()> {
     Ok(())
 }
 
-// What is left to read, up to 262,144 bytes.
-fn read(alloc: Global, from: impl Read + Drop) -> io::Result<Vec<u8>>
-    ensures { IfOk result (λ input. vec_len input ≤ 262144) }
-{
-    let mut input = Vec::new(alloc);
-    from.take(262144).read_to_end(&mut input)?;
-    input.truncate(262144);
-    Ok(input)
-}
-
+// No more of the input is read than 262,144 bytes.
 fn main(rt: HostRuntime) -> io::Result<()> {
-    let input = read(rt.alloc(), rt.reader())?;
+    let mut input = Vec::new(rt.alloc());
+    rt.reader().take(262144).read_to_end(&mut input)?;
     let mut out = BufWriter::new(rt.alloc(), io::writer(&rt))?;
     run(&mut out, &input)?;
     out.flush()
