@@ -1,13 +1,16 @@
 -- The first place of a list whose entry is at most m, for any list: it is the one place with the two facts `reached` and `before` (`place_one`); a greater m
--- never has a later one (`place_falls`); and in a list that never rises one entry tells on which side of it the place is. Assumes nothing.
+-- never has a later one (`place_falls`); and in a list that never rises one entry tells on which side of it the place is, so that a search by halves finds it.
+-- Assumes nothing.
 use mathlib.Core.Path.{◌≡◌, refl}
 use mathlib.Core.Bool.{Bool, true, false, cond}
 use mathlib.Core.List.{List, [], ◌∷◌}
 use Prim.Native.Nat.{ℕ, zero, suc, ◌≤◌, ◌<◌, zero-le}
 use native.Mathlib.Omega.{arith}
-use lib.Dec.{leb}
+use lib.Dec.{leb, ltb}
 use lib.ListN.{length, get_or}
-use borrow.Author.Tests.{leb-true, leb-false}
+use borrow.Author.Tests.{leb-true, leb-false, lt-ltb, ltb-true, ltb-false}
+use Rattle.std.specs.List.Sorted.{IsPartitionedBy, IsPartitionPoint}
+use Rattle.std.proofs.lemmas.Grind.{get_or_default_zero}
 use Rattle.depth.specs.Table.{place}
 
 module _ (m : ℕ) where
@@ -68,3 +71,17 @@ place_falls m n xs h =
     let t = most n xs in
     let no : place m xs < place n xs → ⊥ = λ l. (let a = reached m xs (omega arith) in let b = before n xs (place m xs) l in omega arith) in
     omega arith
+
+-- the entries above m come first in it
+pub parted : (m : ℕ) (xs : List ℕ) → Falling xs → IsPartitionedBy (ltb m) xs
+parted m xs f i j d h n t =
+    let e = get_or_default_zero xs i d (omega arith) in
+    let a = ltb-true m (get_or xs j d) t in
+    let b = get_or_default_zero xs j d n in
+    let g = f i j h n in
+    lt-ltb m (get_or xs i d) (omega arith)
+
+-- and where they end is the place
+pub parts : (m : ℕ) (xs : List ℕ) (d : ℕ) → d ≤ length xs → IsPartitionPoint (λ x. ltb m x ≡ true) (λ x. ltb m x ≡ false) xs d → d ≡ place m xs
+parts m xs d n p =
+    place_one m xs d n (λ h. ltb-false m (get_or xs d 0) (p.1 d 0 (omega arith) h)) (λ k h. ltb-true m (get_or xs k 0) (p.0 k 0 (omega arith) h))

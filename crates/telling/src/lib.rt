@@ -1,113 +1,80 @@
-// Tells what a call answered, in words, and what a buffer holds: its length, of a short buffer the entries, and a digest of all entries in order. An
-// entry of the work area counts as its `kind`.
+// Tells what a call answered, in words, and what a buffer holds.
 #![tactic(auto)]
 
-use rules::{Answer, Band, Figure, Found, Outcome};
+use rules::{Band, Finding, Refusal};
 use std::io;
 use std::io::Write;
 
-fn say(out: &mut impl Write, n: u64) -> io::Result<()> {
-    write!(out, " {n}")
+// ---- what a buffer holds
+
+// The digest h with one number more.
+fn with_number(h: u64, number: u64) -> u64 {
+    (h % 4294967291 * 1000003 + number % 4294967291 + 1) % 4294967291
 }
 
-// The digest h with one entry more, which is said too where the buffer, of n entries, is short.
-fn with_said(out: &mut impl Write, h: u64, n: usize, v: u64) -> io::Result<u64> {
-    if n <= 12 {
-        say(out, v)?;
+// How many entries there are, the entries themselves where they are few, and a digest of all of them in order. An entry counts as the number of it.
+pub fn say_entries<T: Copy, F: Fn(T) -> u64>(
+    out: &mut impl Write,
+    entries: &[T],
+    number_of: F,
+) -> io::Result<()>
+    requires { F.IsAlwaysCallable number_of }
+{
+    write!(out, "; {}", entries.len())?;
+    let mut digest = 0;
+    for entry in entries {
+        let number = number_of(*entry);
+        if entries.len() <= 12 {
+            write!(out, " {number}")?;
+        }
+        digest = with_number(digest, number);
     }
-    Ok((h % 4294967291 * 1000003 + v % 4294967291 + 1) % 4294967291)
+    write!(out, " {digest}")
 }
 
-// Tells apart 0, the four numbers that a work area is filled with, and any other.
-fn kind(v: i64) -> u64 {
-    if v == 0 {
-        return 0;
+// The number of an entry of the work area: it tells apart 0, the four numbers that the area is filled with, and any other.
+pub fn kind(entry: i64) -> u64 {
+    match entry {
+        0 => 0,
+        i64::MIN => 1,
+        i64::MAX => 2,
+        -1 => 3,
+        1 => 4,
+        _ => 5,
     }
-    if v == -9223372036854775808 {
-        return 1;
-    }
-    if v == 9223372036854775807 {
-        return 2;
-    }
-    if v == -1 {
-        return 3;
-    }
-    if v == 1 { 4 } else { 5 }
 }
 
-fn wide8(v: u8) -> u64 {
-    v as u64
+// ---- what a call answered
+
+fn say_refused(out: &mut impl Write, refusal: Refusal) -> io::Result<()> {
+    write!(out, "refused {}", u8::from(refusal))
 }
 
-fn wide16(v: u16) -> u64 {
-    v as u64
-}
-
-// What goes before a buffer's entries: how many there are.
-fn say_length(out: &mut impl Write, n: usize) -> io::Result<()> {
-    out.write_all(b";")?;
-    say(out, n as u64)
-}
-
-pub fn say_bytes(out: &mut impl Write, b: &[u8]) -> io::Result<()> {
-    say_length(out, b.len())?;
-    let mut h = 0;
-    for v in b {
-        h = with_said(out, h, b.len(), wide8(*v))?;
-    }
-    say(out, h)
-}
-
-pub fn say_entries(out: &mut impl Write, m: &[u16]) -> io::Result<()> {
-    say_length(out, m.len())?;
-    let mut h = 0;
-    for v in m {
-        h = with_said(out, h, m.len(), wide16(*v))?;
-    }
-    say(out, h)
-}
-
-pub fn say_kinds(out: &mut impl Write, work: &[i64]) -> io::Result<()> {
-    say_length(out, work.len())?;
-    let mut h = 0;
-    for v in work {
-        h = with_said(out, h, work.len(), kind(*v))?;
-    }
-    say(out, h)
-}
-
-fn say_refused(out: &mut impl Write, number: u8) -> io::Result<()> {
-    out.write_all(b"refused")?;
-    say(out, number as u64)
-}
-
-pub fn say_answer(out: &mut impl Write, answer: Answer) -> io::Result<()> {
+pub fn say_answer(out: &mut impl Write, answer: Result<(), Refusal>) -> io::Result<()> {
     match answer {
-        Answer::Done => out.write_all(b"done"),
-        Answer::Refused(number) => say_refused(out, number),
+        Ok(()) => write!(out, "done"),
+        Err(refusal) => say_refused(out, refusal),
     }
 }
 
-pub fn say_outcome(out: &mut impl Write, outcome: Outcome) -> io::Result<()> {
-    match outcome {
-        Outcome::Done(count) => {
-            out.write_all(b"done")?;
-            say(out, count)
-        }
-        Outcome::Refused(number) => say_refused(out, number),
+// What Clear and Replace answer.
+pub fn say_count(out: &mut impl Write, count: Result<u64, Refusal>) -> io::Result<()> {
+    match count {
+        Ok(count) => write!(out, "done {count}"),
+        Err(refusal) => say_refused(out, refusal),
     }
 }
 
-pub fn say_found(out: &mut impl Write, found: Found) -> io::Result<()> {
-    match found {
-        Found::Light(f) => {
-            out.write_all(b"light")?;
-            say(out, f.light.r as u64)?;
-            say(out, f.light.g as u64)?;
-            say(out, f.light.b as u64)?;
-            say(out, f.comparisons)
+pub fn say_finding(out: &mut impl Write, finding: Result<Finding, Refusal>) -> io::Result<()> {
+    match finding {
+        Ok(Finding { light, comparisons }) => {
+            write!(
+                out,
+                "light {} {} {} {comparisons}",
+                light.r, light.g, light.b
+            )
         }
-        Found::Refused(number) => say_refused(out, number),
+        Err(refusal) => say_refused(out, refusal),
     }
 }
 
@@ -116,20 +83,15 @@ fn bits(x: f64) -> u64 {
     if x.is_nan() { 0 } else { x.to_bits() }
 }
 
-fn say_figure(out: &mut impl Write, figure: Figure) -> io::Result<()> {
-    out.write_all(b"figure")?;
-    say(out, bits(figure.mean))?;
-    say(out, bits(figure.least))
-}
-
 pub fn say_band(out: &mut impl Write, band: Band) -> io::Result<()> {
     match band {
-        Band::Figure(figure) => say_figure(out, figure),
-        Band::Refused(number) => say_refused(out, number),
+        Band::Figure(figure) => {
+            write!(out, "figure {} {}", bits(figure.mean), bits(figure.least))
+        }
+        Band::Refused(refusal) => say_refused(out, refusal),
     }
 }
 
 pub fn say_budget(out: &mut impl Write, count: u64) -> io::Result<()> {
-    out.write_all(b"takes")?;
-    say(out, count)
+    write!(out, "takes {count}")
 }

@@ -4,7 +4,4 @@ use Rattle.depth.specs.Table.{depth_of}
 use Rattle.depth.proofs.fallen.Given as goal
 
 abbrev pub invariant-loop-at : goal.invariant-loop-at
-invariant-loop-at l = (depth_of l.t ≤ l.at) × (l.at ≤ 918)
-
-abbrev pub decreases-loop-at : goal.decreases-loop-at
-decreases-loop-at l = l.at
+invariant-loop-at l = depth_of l.t ≤ l.at

@@ -1,12 +1,9 @@
 -- `depth::fill` meets its contract. The loop's invariant: each t passed has its depth, and that of the next is no more than d. Assumes nothing.
 use mathlib.Core.Path.{◌≡◌}
-use Prim.Native.Nat.{ℕ, ◌-◌, ◌≤◌, ◌<◌}
-use lib.ListN.{length, get_or}
+use Prim.Native.Nat.{ℕ, ◌≤◌, ◌<◌}
+use lib.ListN.{get_or}
 use Rattle.depth.specs.Table.{depth_of}
 use Rattle.depth.proofs.fill.Given as goal
 
 abbrev pub invariant-loop-t : goal.invariant-loop-t
-invariant-loop-t l = (l.t ≤ 10001) × (length l.every ≡ length l.initial.every) × (depth_of l.t ≤ l.d) × (l.d ≤ 918) × ((k : ℕ) → k < l.t → get_or l.every k 0 ≡ depth_of k)
-
-abbrev pub decreases-loop-t : goal.decreases-loop-t
-decreases-loop-t l = 10001 - l.t
+invariant-loop-t l = record { falls : depth_of l.t ≤ l.d; most : l.d ≤ 918; passed : (k : ℕ) → k < l.t → get_or l.every k 0 ≡ depth_of k }
