@@ -8,11 +8,15 @@ use lib.Dec.{ltb}
 use lib.ListN.{length, take, drop, length-drop}
 use lib.Seq.{take_all}
 use borrow.Author.Tests.{ltb-true}
+use Rattle.std.specs.Prelude.{Option, Some, None, Err, ok_or}
 use Rattle.rules.specs.declared.Size.{Size}
+use Rattle.rules.specs.declared.Refusal.{Refusal}
+use Rattle.rules.specs.declared.Refusal.TheVariants as refusal
+use Rattle.rules.specs.Answers.{number as number_of, said}
 use Rattle.rules.specs.Refusals.{first, off, bad_size, bad_frame}
 use Rattle.rules.proofs.Good.{same_of, frame_good}
 use Rattle.fields.proofs.Every.{both}
-use Rattle.pnm.specs.declared.Head.TheVariants as head
+use Rattle.pnm.specs.declared.Head.{Head}
 use Rattle.pnm.specs.Header.{number, token, second, third, last, magic, closed, good, header_of, head_said}
 use Rattle.ppm.specs.Promise.{size, pixels, tests_body, tests_lent, refuse_size, refuse_read, refuse_write}
 use Rattle.ppm.specs.File.{long}
@@ -28,41 +32,52 @@ unfolding good closed
 last_within kind s g =
     ltb-true (last s) (length s) (both (ltb (last s) (length s)) _ (both (magic kind s && token s 2 && token s (second s) && token s (third s)) (closed s (last s)) g).1).0
 
-pub record Opened (kind : ℕ) (s : List ℕ) (w h top start : ℕ) : Type 0 where
-  pub says : Says kind s w h top (drop start s)
-  pub within : start ≤ length s
-  pub behind : length (drop start s) ≡ length s - start
+pub record Opened (kind : ℕ) (s : List ℕ) (h : Head) : Type 0 where
+  pub says : Says kind s h.width h.height h.maximum (drop h.start s)
+  pub at : suc (last s) ≡ h.start
+  pub within : h.start ≤ length s
+  pub behind : length (drop h.start s) ≡ length s - h.start
 
-pub opened : (kind : ℕ) (s : List ℕ) (w h top start : ℕ) → header_of kind s ≡ head.Is w h top start → Opened kind s w h top start
+-- the header that a file's own numbers make up
+abbrev read_of : List ℕ → Head
+read_of s = record { width = number s 2; height = number s (second s); maximum = number s (third s); start = suc (last s) }
+
+pub opened : (kind : ℕ) (s : List ℕ) (h : Head) → header_of kind s ≡ Some h → Opened kind s h
 unfolding header_of
-opened kind s w h top start q = go (good kind s) refl q
+opened kind s h q = go (good kind s) refl q
   where
-    go : (b : Bool) → good kind s ≡ b → cond b (head.Is (number s 2) (number s (second s)) (number s (third s)) (suc (last s))) head.Bad ≡ head.Is w h top start → Opened kind s w h top start
+    go : (b : Bool) → good kind s ≡ b → cond b (Some (read_of s)) None ≡ Some h → Opened kind s h
     go true g e =
         let l = last_within kind s g in
-        let at : suc (last s) ≡ start = cc in
-        record {
-          says = record { good = g; wide = cc; tall = cc; maximum = cc; rest = ap (λ (n : ℕ). drop n s) at; start = omega (arith, length-drop start s) };
+        let is : read_of s ≡ h = cc in
+        rw (← is)
+        (record {
+          says = record { good = g; wide = refl; tall = refl; maximum = refl; rest = refl; start = omega (arith, length-drop (suc (last s)) s) };
+          at = refl;
           within = omega arith;
-          behind = length-drop start s;
-        }
-    go false g e = absurd (let z : ◌≡◌ {A = ℕ} 0 1 = cc in let y : ⊥ = omega arith in y)
+          behind = length-drop (suc (last s)) s;
+        })
+    go false g e = absurd cc
 
-pub not_good : (kind : ℕ) (s : List ℕ) → header_of kind s ≡ head.Bad → good kind s ≡ false
+pub not_good : (kind : ℕ) (s : List ℕ) → header_of kind s ≡ None → good kind s ≡ false
 unfolding header_of
 not_good kind s q = go (good kind s) q
   where
-    go : (b : Bool) → cond b (head.Is (number s 2) (number s (second s)) (number s (third s)) (suc (last s))) head.Bad ≡ head.Bad → b ≡ false
-    go true e = absurd (let z : ◌≡◌ {A = ℕ} 0 1 = cc in let y : ⊥ = omega arith in y)
+    go : (b : Bool) → cond b (Some (read_of s)) None ≡ None → b ≡ false
+    go true e = absurd cc
     go false e = refl
 
 -- ---- the refusal number
 
-pub bad_size_lem : (s : List ℕ) → header_of 54 s ≡ head.Bad → refuse_size s ≡ head_said head.Bad
+-- a file with no good header is refused with 11
+pub unheaded : {o : Option Head} {e : Refusal} → Err e ≡ ok_or o refusal.Header → o ≡ None → number_of e ≡ head_said None
+unheaded is none = ap said (is ∙ ap (λ (o : Option Head). ok_or o refusal.Header) none)
+
+pub bad_size_lem : (s : List ℕ) → header_of 54 s ≡ None → refuse_size s ≡ head_said None
 unfolding refuse_size
 bad_size_lem s q = rw (not_good 54 s q)
 
-pub bad_read : (s : List ℕ) (lent : ℕ) → header_of 54 s ≡ head.Bad → refuse_read s lent ≡ head_said head.Bad
+pub bad_read : (s : List ℕ) (lent : ℕ) → header_of 54 s ≡ None → refuse_read s lent ≡ head_said None
 unfolding refuse_read
 bad_read s lent q = rw (not_good 54 s q)
 
@@ -76,14 +91,14 @@ lent_alike z top n = go (bad_size z) (off top 255) (bad_frame z n)
     go false false true = refl
     go false false false = refl
 
-module _ {s : List ℕ} {w h top start : ℕ} (o : Opened 54 s w h top start) where
-  pub size_number : first (tests_lent (record { w = w; h = h }) top (length s - start) (length s - start)) ≡ refuse_size s
+module _ {s : List ℕ} {h : Head} (o : Opened 54 s h) where
+  pub size_number : first (tests_lent (record { w = h.width; h = h.height }) h.maximum (length s - h.start) (length s - h.start)) ≡ refuse_size s
   size_number =
-      lent_alike (record { w = w; h = h }) top (length s - start)
-      ∙ sym (size_refused o.says ∙ ap (λ (n : ℕ). first (tests_body (record { w = w; h = h }) top n)) o.behind)
+      lent_alike (record { w = h.width; h = h.height }) h.maximum (length s - h.start)
+      ∙ sym (size_refused o.says ∙ ap (λ (n : ℕ). first (tests_body (record { w = h.width; h = h.height }) h.maximum n)) o.behind)
 
-  pub read_number : (lent : ℕ) → first (tests_lent (record { w = w; h = h }) top (length s - start) lent) ≡ refuse_read s lent
-  read_number lent = sym (read_refused o.says lent ∙ ap (λ (n : ℕ). first (tests_lent (record { w = w; h = h }) top n lent)) o.behind)
+  pub read_number : (lent : ℕ) → first (tests_lent (record { w = h.width; h = h.height }) h.maximum (length s - h.start) lent) ≡ refuse_read s lent
+  read_number lent = sym (read_refused o.says lent ∙ ap (λ (n : ℕ). first (tests_lent (record { w = h.width; h = h.height }) h.maximum n lent)) o.behind)
 
 -- ---- a call that is not refused
 
@@ -93,8 +108,10 @@ lent_fits s lent e =
     frame_good (size s) (length (pixels s)) n.1.1.1.0 ∙ sym (frame_good (size s) lent n.1.1.1.1.0)
 
 -- the part of the file that is copied
-pub copied : {s : List ℕ} {w h top start : ℕ} → Opened 54 s w h top start → take (length s - start) (drop start s) ≡ pixels s
-copied {s} {start = start} o = take_all (length s - start) (drop start s) (let z : length (drop start s) ≤ length s - start = omega (arith, o.behind) in z) ∙ sym (pixels_said o.says)
+pub copied : {s : List ℕ} {h : Head} → Opened 54 s h → take (length s - h.start) (drop h.start s) ≡ pixels s
+copied {s} {h} o =
+    take_all (length s - h.start) (drop h.start s) (let z : length (drop h.start s) ≤ length s - h.start = omega (arith, o.behind) in z)
+    ∙ sym (pixels_said o.says)
 
 pub record Writable (z : Size) (frame out : ℕ) : Type 0 where
   pub pixels : frame ≡ 3 * (z.w * z.h)

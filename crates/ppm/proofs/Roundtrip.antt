@@ -1,22 +1,21 @@
 -- What the writer wrote, the reader reads back. Assumes nothing.
-use mathlib.Core.Path.{◌≡◌, refl, sym, ap, ◌∙◌}
+use mathlib.Core.Path.{◌≡◌, refl, ap, ◌∙◌}
 use mathlib.Core.Bool.{true, false}
 use mathlib.Core.List.{List, [], ◌∷◌, ◌++◌, append_assoc}
 use Prim.Native.Nat.{ℕ, ◌*◌}
 use native.Mathlib.Omega.{arith}
 use lib.ListN.{length}
 use borrow.Author.Tests.{eq-eqb}
+use Rattle.std.specs.Prelude.{Result, Ok}
 use Rattle.rules.specs.declared.Size.{Size}
-use Rattle.rules.specs.declared.Answer.{Answer}
-use Rattle.rules.specs.declared.Answer.TheVariants as answer
+use Rattle.rules.specs.declared.Refusal.{Refusal}
+use Rattle.rules.specs.Answers.{said}
 use Rattle.rules.specs.Refusals.{bad_size, bad_frame}
 use Rattle.rules.proofs.Good.{size_good, frame_good}
-use Rattle.rules.proofs.Answers.{done_free}
+use Rattle.rules.proofs.Answers.{or_free}
 use Rattle.fields.specs.Words.{bytes}
 use Rattle.fields.specs.Decimal.{figured, decimal}
 use Rattle.fields.proofs.Decimal.{value_decimal, figured_decimal}
-use Rattle.ppm.specs.declared.Taken.{Taken}
-use Rattle.ppm.specs.declared.Taken.TheVariants as taken
 use Rattle.pnm.specs.Gap.{Gap, Parts, GoodParts, header}
 use Rattle.ppm.specs.File.{head, file}
 use Rattle.ppm.specs.Promise.{size, pixels, refuse_size, refuse_read, refuse_write, Reads, Writes}
@@ -73,15 +72,15 @@ module _ (z : Size) (frame : List ℕ) (e : bad_size z ≡ false) where
 -- ---- and by the promises
 
 pub round_trip :
-    (z : Size) (frame out out' lent lent' : List ℕ) (r : Answer) (q : Taken)
+    (z : Size) (frame out out' lent lent' : List ℕ) (r : Result (Unit {0}) Refusal) (q : Result Size Refusal)
     → Writes z frame out r out'
-    → r ≡ answer.Done
+    → r ≡ Ok tt
     → Reads out' lent q lent'
     → length lent ≡ length frame
-    → (q ≡ taken.Frame z) × (lent' ≡ frame)
+    → (q ≡ Ok z) × (lent' ≡ frame)
 round_trip z frame out out' lent lent' r q write d read l =
-    let zero_write : refuse_write z (length frame) (length out) ≡ 0 = done_free (refuse_write z (length frame) (length out)) (sym write.answer ∙ d) in
+    let zero_write : refuse_write z (length frame) (length out) ≡ 0 = or_free (refuse_write z (length frame) (length out)) tt r write.answer (ap said d) in
     let none = (write_exact z (length frame) (length out)).free zero_write in
     let wrote : out' ≡ file z frame = write.after ∙ rw zero_write in
     let zero_read : refuse_read out' (length lent) ≡ 0 = rw (wrote, l) (read_back z frame none.0 (frame_good z (length frame) none.1.0)) in
-    (read.answer ∙ rw (zero_read, wrote) (ap taken.Frame (size_back z frame none.0)), read.after ∙ rw (zero_read, wrote) (pixels_back z frame none.0))
+    (read.answer ∙ rw (zero_read, wrote) (ap Ok (size_back z frame none.0)), read.after ∙ rw (zero_read, wrote) (pixels_back z frame none.0))

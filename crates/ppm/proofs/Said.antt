@@ -4,9 +4,11 @@ use mathlib.Core.Path.{◌≡◌, ap₂}
 use mathlib.Core.List.{List, ◌++◌}
 use Prim.Native.Nat.{ℕ}
 use lib.ListN.{length}
+use Rattle.std.specs.Prelude.{Result}
+use Rattle.rules.specs.declared.Size.{Size}
+use Rattle.rules.specs.declared.Refusal.{Refusal}
 use Rattle.rules.specs.Refusals.{first}
 use Rattle.fields.specs.Decimal.{value_from}
-use Rattle.ppm.specs.declared.Taken.{Taken}
 use Rattle.pnm.specs.Gap.{Parts, GoodParts, header, Alike}
 use Rattle.ppm.specs.Promise.{size, pixels, tests_body, tests_lent, refuse_size, refuse_read, Sizes, Reads}
 use Rattle.pnm.proofs.Headers.{Says, header_says}
@@ -36,10 +38,10 @@ module _ (p q : Parts) (good : GoodParts p) (fine : GoodParts q) (same : Alike p
   right : Says 54 (header 54 q ++ rest) (value_from 0 q.wide) (value_from 0 q.tall) (value_from 0 q.top) rest
   right = header_says 54 q fine rest
 
-  pub sizes_alike : (r r' : Taken) → Sizes (header 54 p ++ rest) r → Sizes (header 54 q ++ rest) r' → r ≡ r'
+  pub sizes_alike : (r r' : Result Size Refusal) → Sizes (header 54 p ++ rest) r → Sizes (header 54 q ++ rest) r' → r ≡ r'
   sizes_alike r r' a b = cc (size_said left, size_said right, size_refused left, size_refused right)
 
-  pub reads_alike : (frame : List ℕ) (r r' : Taken) (m m' : List ℕ) → Reads (header 54 p ++ rest) frame r m → Reads (header 54 q ++ rest) frame r' m' → (r ≡ r') × (m ≡ m')
+  pub reads_alike : (frame : List ℕ) (r r' : Result Size Refusal) (m m' : List ℕ) → Reads (header 54 p ++ rest) frame r m → Reads (header 54 q ++ rest) frame r' m' → (r ≡ r') × (m ≡ m')
   reads_alike frame r r' m m' a b = (
     cc (size_said left, size_said right, read_refused left (length frame), read_refused right (length frame)),
     cc (pixels_said left, pixels_said right, read_refused left (length frame), read_refused right (length frame)),

@@ -1,14 +1,14 @@
 -- Worked files, as a table: what the definitions give, and what is wanted by the request's words and by the readings of their open places. Headers have a
 -- table of their own, in `pnm`. Assumes nothing.
-use Rattle.std.specs.Prelude.{ℕ, List, [], ◌∷◌, ◌++◌, map, length, replicate}
+use Rattle.std.specs.Prelude.{ℕ, List, [], ◌∷◌, ◌++◌, Result, Ok, Err, map, length, replicate}
 use Prim.Native.String.{String}
 use Rattle.rules.specs.declared.Size.{Size}
+use Rattle.rules.specs.declared.Refusal.{Refusal}
+use Rattle.rules.specs.Answers.{number, or}
 use Rattle.rules.specs.Promise.{unless}
 use Rattle.fields.specs.Words.{bytes}
-use Rattle.ppm.specs.declared.Taken.{Taken}
-use Rattle.ppm.specs.declared.Taken.TheVariants as taken
 use Rattle.ppm.specs.File.{file}
-use Rattle.ppm.specs.Promise.{size, pixels, refuse_size, refuse_read, refuse_write, frame_or, length_for}
+use Rattle.ppm.specs.Promise.{size, pixels, refuse_size, refuse_read, refuse_write, length_for}
 
 pub record Row : Type 0 where
   pub got : List ℕ
@@ -30,15 +30,15 @@ over = two ++ 7 ∷ []
 abbrev lent : ℕ → List ℕ
 lent n = replicate n 170
 
-abbrev answer : Taken → List ℕ
-answer (taken.Frame z) = 0 ∷ z.w ∷ z.h ∷ []
-answer (taken.Refused n) = n ∷ []
+abbrev answer : Result Size Refusal → List ℕ
+answer (Ok z) = 0 ∷ z.w ∷ z.h ∷ []
+answer (Err e) = number e ∷ []
 
 -- what size answers, what read answers with a lent frame of n bytes, and what stands in the frame afterwards
 abbrev reads : List ℕ → ℕ → List ℕ
 reads s n =
     let no = refuse_read s n in
-    answer (frame_or (refuse_size s) (size s)) ++ answer (frame_or no (size s)) ++ unless no (pixels s) (lent n)
+    answer (or (refuse_size s) (size s)) ++ answer (or no (size s)) ++ unless no (pixels s) (lent n)
 
 -- a file is taken as a frame of w by h
 abbrev takes : String → List ℕ → ℕ → ℕ → Row

@@ -1,12 +1,10 @@
 -- What reader and writer promise, for every input: the answer, and what stands in the lent memory afterwards. Assumes nothing.
-use Rattle.std.specs.Prelude.{◌≡◌, ℕ, suc, cond, not, List, [], ◌∷◌, ◌++◌, length, drop}
+use Rattle.std.specs.Prelude.{◌≡◌, ℕ, suc, cond, not, List, [], ◌∷◌, ◌++◌, None, Result, length, drop}
 use Rattle.rules.specs.declared.Size.{Size}
-use Rattle.rules.specs.declared.Answer.{Answer}
+use Rattle.rules.specs.declared.Refusal.{Refusal}
 use Rattle.rules.specs.Refusals.{Tests, first, off, bad_size, bad_frame}
-use Rattle.rules.specs.Promise.{or, answered, unless}
-use Rattle.ppm.specs.declared.Taken.{Taken}
-use Rattle.ppm.specs.declared.Taken.TheVariants as taken
-use Rattle.pnm.specs.declared.Head.TheVariants as head
+use Rattle.rules.specs.Answers.{or}
+use Rattle.rules.specs.Promise.{unless}
 use Rattle.pnm.specs.Header.{number, second, third, last, good, head_said}
 use Rattle.ppm.specs.File.{file, long}
 
@@ -33,10 +31,10 @@ tests_lent z top n lent = tests_body z top n ++ (4, bad_frame z lent) ∷ []
 
 -- the three calls; 54 is the digit 6
 abbrev pub tests_size : List ℕ → Tests
-tests_size s = (head_said head.Bad, not (good 54 s)) ∷ tests_body (size s) (maximum s) (length (pixels s))
+tests_size s = (head_said None, not (good 54 s)) ∷ tests_body (size s) (maximum s) (length (pixels s))
 
 abbrev pub tests_read : List ℕ → ℕ → Tests
-tests_read s lent = (head_said head.Bad, not (good 54 s)) ∷ tests_lent (size s) (maximum s) (length (pixels s)) lent
+tests_read s lent = (head_said None, not (good 54 s)) ∷ tests_lent (size s) (maximum s) (length (pixels s)) lent
 
 abbrev pub tests_write : Size → ℕ → ℕ → Tests
 tests_write z frame out = (1, bad_size z) ∷ (3, bad_frame z frame) ∷ (4, off out (long z)) ∷ []
@@ -50,15 +48,7 @@ refuse_read s lent = first (tests_read s lent)
 unfoldable pub refuse_write : Size → ℕ → ℕ → ℕ
 refuse_write z frame out = first (tests_write z frame out)
 
--- ---- the answers
-
--- the case for each number, 0 for a file that is taken
-abbrev pub frame_or : ℕ → Size → Taken
-frame_or = or taken.Frame taken.Refused
-
-abbrev pub taken_said : Taken → ℕ
-taken_said (taken.Frame z) = 0
-taken_said (taken.Refused n) = n
+-- ---- the length
 
 -- the length of the file of a size, 0 for a size that is refused
 abbrev pub length_for : Size → ℕ
@@ -67,15 +57,15 @@ length_for z = cond (bad_size z) 0 (long z)
 -- ---- the promises
 
 -- size: nothing is written
-pub record Sizes (s : List ℕ) (r : Taken) : Type 0 where
-  pub answer : r ≡ frame_or (refuse_size s) (size s)
+pub record Sizes (s : List ℕ) (r : Result Size Refusal) : Type 0 where
+  pub answer : r ≡ or (refuse_size s) (size s)
 
 -- read: frame stood in the lent frame, frame' stands there afterwards
-pub record Reads (s frame : List ℕ) (r : Taken) (frame' : List ℕ) : Type 0 where
-  pub answer : r ≡ frame_or (refuse_read s (length frame)) (size s)
+pub record Reads (s frame : List ℕ) (r : Result Size Refusal) (frame' : List ℕ) : Type 0 where
+  pub answer : r ≡ or (refuse_read s (length frame)) (size s)
   pub after : frame' ≡ unless (refuse_read s (length frame)) (pixels s) frame
 
 -- write: out stood in the lent output, out' stands there afterwards
-pub record Writes (z : Size) (frame out : List ℕ) (r : Answer) (out' : List ℕ) : Type 0 where
-  pub answer : r ≡ answered (refuse_write z (length frame) (length out))
+pub record Writes (z : Size) (frame out : List ℕ) (r : Result (Unit {0}) Refusal) (out' : List ℕ) : Type 0 where
+  pub answer : r ≡ or (refuse_write z (length frame) (length out)) tt
   pub after : out' ≡ unless (refuse_write z (length frame) (length out)) (file z frame) out

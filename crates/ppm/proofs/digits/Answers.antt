@@ -1,15 +1,16 @@
--- `ppm::digits` meets its contract, bound by bound. Assumes nothing.
+-- `ppm::digits` meets its contract, range by range. Assumes nothing.
+use native.Mathlib.Omega.{arith}
 use Rattle.ppm.proofs.Long.{one_digit, two_digits, three_digits, four_digits}
 use Rattle.ppm.proofs.digits.Goals as goal
 
-pub returns-then-n-lt10 : goal.returns-then-n-lt10
-returns-then-n-lt10 c = one_digit _ c.if-n-lt10.true
+pub returns-in-0-to-9 : goal.returns-in-0-to-9
+returns-in-0-to-9 c = one_digit _ (omega arith)
 
-pub returns-then-n-lt100 : goal.returns-then-n-lt100
-returns-then-n-lt100 c = two_digits _ c.if-n-lt10.false c.if-n-lt100.true
+pub returns-in-10-to-99 : goal.returns-in-10-to-99
+returns-in-10-to-99 c = two_digits _ (omega arith) (omega arith)
 
-pub returns-then-n-lt1000 : goal.returns-then-n-lt1000
-returns-then-n-lt1000 c = three_digits _ c.if-n-lt100.false c.if-n-lt1000.true
+pub returns-in-100-to-999 : goal.returns-in-100-to-999
+returns-in-100-to-999 c = three_digits _ (omega arith) (omega arith)
 
-pub returns : goal.returns
-returns c = four_digits _ c.if-n-lt1000.false c.requires
+pub returns-in_default : goal.returns-in_default
+returns-in_default c = four_digits _ (omega arith) c.requires

@@ -1,34 +1,23 @@
--- `ppm::length` meets its contract: 0 for a size that is refused, and nothing overflows for one that is not. Assumes nothing.
-use mathlib.Core.Path.{◌≡◌, sym, ◌∙◌}
-use mathlib.Core.Bool.{false}
-use Prim.Native.Nat.{◌≤◌}
+-- `ppm::length` meets its contract: nothing overflows for a size that is not refused. Assumes nothing.
+use mathlib.Core.Path.{sym, ◌∙◌}
 use native.Mathlib.Omega.{arith}
+use Prim.Native.Nat.{◌≤◌}
 use Rattle.rules.specs.Shape.{described}
 use Rattle.rules.specs.Good.{GoodSize}
-use Rattle.rules.specs.Refusals.{bad_size}
 use Rattle.rules.proofs.Good.{size_good}
 use Rattle.fields.proofs.Written.{most}
 use Rattle.ppm.proofs.length.Goals as goal
 use Rattle.ppm.proofs.length.Goals.{After-digits, After-digits-2, Else-wrong_size}
 
-small : (c : Else-wrong_size) → bad_size c.args.z ≡ false
-small c = sym c.wrong_size.ensures ∙ c.if-wrong_size.false
-
 good : (c : Else-wrong_size) → GoodSize (described c.args.z)
-good c = size_good _ (small c)
-
-pub wrong_size-requires : goal.wrong_size-requires
-wrong_size-requires c = tt
-
-pub returns-then-wrong_size : goal.returns-then-wrong_size
-returns-then-wrong_size c = rw (sym c.wrong_size.ensures ∙ c.if-wrong_size.true)
+good c = size_good _ (sym c.wrong_size.ensures ∙ c.if-wrong_size.false)
 
 pub digits-requires : goal.digits-requires
 digits-requires c = omega (arith, (good (goal.at.digits-requires c).Else-wrong_size).wide)
 
 -- width and height have four digits at the most
 across : (c : After-digits) → c.digits.result ≤ 4
-across c = let n = c.args.z.w in omega (arith, c.digits.ensures, most 3 n (omega (arith, (good (goal.at.After-digits c).Else-wrong_size).wide)))
+across c = let n = c.args.z.w in omega (arith, most 3 n (omega (arith, (good (goal.at.After-digits c).Else-wrong_size).wide)))
 
 pub overflow_add-result : goal.overflow_add-result
 overflow_add-result c = omega (arith, across (goal.at.overflow_add-result c).After-digits)
@@ -37,7 +26,7 @@ pub digits-requires-2 : goal.digits-requires-2
 digits-requires-2 c = omega (arith, (good (goal.at.digits-requires-2 c).Else-wrong_size).tall)
 
 down : (c : After-digits-2) → c.digits-2.result ≤ 4
-down c = let n = c.args.z.h in omega (arith, c.digits-2.ensures, most 3 n (omega (arith, (good (goal.at.After-digits-2 c).Else-wrong_size).tall)))
+down c = let n = c.args.z.h in omega (arith, most 3 n (omega (arith, (good (goal.at.After-digits-2 c).Else-wrong_size).tall)))
 
 pub overflow_add-result-2 : goal.overflow_add-result-2
 overflow_add-result-2 c = omega (arith, across (goal.at.overflow_add-result-2 c).After-digits, down (goal.at.overflow_add-result-2 c).After-digits-2)
@@ -50,6 +39,3 @@ overflow_mul-result-2 c = omega (arith, (good (goal.at.overflow_mul-result-2 c).
 
 pub overflow_add-result-3 : goal.overflow_add-result-3
 overflow_add-result-3 c = omega (arith, across (goal.at.overflow_add-result-3 c).After-digits, down (goal.at.overflow_add-result-3 c).After-digits-2, (good (goal.at.overflow_add-result-3 c).Else-wrong_size).area)
-
-pub returns : goal.returns
-returns c = rw (small (goal.at.returns c).Else-wrong_size, c.digits.ensures, c.digits-2.ensures)

@@ -3,62 +3,56 @@ use mathlib.Core.Path.{◌≡◌, sym, ap, ◌∙◌}
 use native.Mathlib.Omega.{arith}
 use Prim.Native.Nat.{◌-◌}
 use lib.ListN.{length, take, drop}
+use Rattle.std.specs.Prelude.{Ok}
 use Rattle.fields.proofs.Written.{wrote_all}
-use Rattle.rules.proofs.Answers.{or_refused, or_done, kept, made}
-use Rattle.ppm.specs.declared.Taken.TheVariants as taken
+use Rattle.rules.proofs.Answers.{number_some, or_refused, or_done, error_is, kept, made}
 use Rattle.ppm.specs.Promise.{refuse_read}
-use Rattle.ppm.proofs.Reading.{Opened, opened, bad_read, read_number, lent_fits, copied}
+use Rattle.ppm.proofs.Reading.{Opened, opened, unheaded, bad_read, read_number, lent_fits, copied}
 use Rattle.ppm.proofs.Said.{size_said}
 use Rattle.ppm.proofs.read.Goals as goal
-use Rattle.ppm.proofs.read.Goals.{After-refuse_read-n, Else-n-ne0, In-Is}
+use Rattle.ppm.proofs.read.Goals.{In_ok-head, In_ok-refuse_read}
 
 -- the header is good
-known : (c : In-Is) → let g = c.in-Is in Opened 54 c.args.s.now g.w g.h g.top g.start
-known c = opened _ _ _ _ _ _ (sym c.header.ensures ∙ c.in-Is.is)
+known : (c : In_ok-head) → Opened 54 c.args.s.now c.in_ok-head.head
+known c = opened _ _ _ (sym c.header.ensures ∙ c.in_ok-head.ensures.ok_part)
+
+pub returns-in_err-head : goal.returns-in_err-head
+returns-in_err-head c =
+    let h = c.in_err-head.ensures in
+    let e = unheaded h.value h.ok_part ∙ sym (bad_read _ _ (sym c.header.ensures ∙ h.ok_part)) in
+    record { answer = error_is _ _ c.from_residual.ensures ∙ or_refused _ _ _ e; after = kept _ _ _ _ e (number_some _) }
 
 pub overflow_sub-s : goal.overflow_sub-s
-overflow_sub-s c = (known (goal.at.overflow_sub-s c).In-Is).within
+overflow_sub-s c = (known (goal.at.overflow_sub-s c).In_ok-head).within
 
--- the number of the refusal
-number : (c : After-refuse_read-n) → let a = c.args in c.refuse_read-n.result ≡ refuse_read a.s.now (length a.frame.now)
-number c = c.refuse_read-n.ensures ∙ read_number (known (goal.at.After-refuse_read-n c).In-Is) _
-
-pub returns-then-n-ne0 : goal.returns-then-n-ne0
-returns-then-n-ne0 c =
-    let e = number (goal.at.returns-then-n-ne0 c).After-refuse_read-n in
-    record { answer = or_refused taken.Frame taken.Refused _ _ _ e c.if-n-ne0.true; after = kept _ _ _ _ e c.if-n-ne0.true }
+pub returns-in_err-refuse_read : goal.returns-in_err-refuse_read
+returns-in_err-refuse_read c =
+    let e = c.in_err-refuse_read.ensures ∙ read_number (known (goal.at.returns-in_err-refuse_read c).In_ok-head) _ in
+    record { answer = error_is _ _ c.from_residual-in_err-refuse_read.ensures ∙ or_refused _ _ _ e; after = kept _ _ _ _ e (number_some _) }
 
 pub slice_bounds-put_word-count : goal.slice_bounds-put_word-count
-slice_bounds-put_word-count c = (known (goal.at.slice_bounds-put_word-count c).In-Is).within
+slice_bounds-put_word-count c = (known (goal.at.slice_bounds-put_word-count c).In_ok-head).within
 
 pub slice_bounds-put_word-start : goal.slice_bounds-put_word-start
-slice_bounds-put_word-start c = omega (arith, (known (goal.at.slice_bounds-put_word-start c).In-Is).within)
-
-pub slice_bounds-put_word-end : goal.slice_bounds-put_word-end
-slice_bounds-put_word-end c = omega (arith, (known (goal.at.slice_bounds-put_word-end c).In-Is).within)
+slice_bounds-put_word-start c = omega (arith, (known (goal.at.slice_bounds-put_word-start c).In_ok-head).within)
 
 -- nothing is refused
-none : (c : Else-n-ne0) → let a = c.args in refuse_read a.s.now (length a.frame.now) ≡ 0
-none c = sym (number (goal.at.Else-n-ne0 c).After-refuse_read-n) ∙ c.if-n-ne0.false
+none : (c : In_ok-refuse_read) → let a = c.args in refuse_read a.s.now (length a.frame.now) ≡ 0
+none c = sym (c.in_ok-refuse_read.ensures ∙ read_number (known (goal.at.In_ok-refuse_read c).In_ok-head) _)
 
 -- what is copied is as long as the frame
-fits : (c : Else-n-ne0) → let a = c.args in let start = c.in-Is.start in
+fits : (c : In_ok-refuse_read) → let a = c.args in let start = c.in_ok-head.head.start in
     length (take (length a.s.now - start) (drop start a.s.now)) ≡ length a.frame.now
-fits c = ap length (copied (known (goal.at.Else-n-ne0 c).In-Is)) ∙ lent_fits _ _ (none c)
+fits c = ap length (copied (known (goal.at.In_ok-refuse_read c).In_ok-head)) ∙ lent_fits _ _ (none c)
 
 pub put_word-requires : goal.put_word-requires
-put_word-requires c = omega (arith, fits (goal.at.put_word-requires c).Else-n-ne0)
+put_word-requires c = omega (arith, fits (goal.at.put_word-requires c).In_ok-refuse_read)
 
-pub returns-else-n-ne0 : goal.returns-else-n-ne0
-returns-else-n-ne0 c =
-    let o = known (goal.at.returns-else-n-ne0 c).In-Is in
-    let e = none (goal.at.returns-else-n-ne0 c).Else-n-ne0 in
+pub returns : goal.returns
+returns c =
+    let o = known (goal.at.returns c).In_ok-head in
+    let e = none (goal.at.returns c).In_ok-refuse_read in
     record {
-      answer = ap taken.Frame (sym (size_said o.says)) ∙ or_done taken.Frame taken.Refused _ _ e;
-      after = wrote_all c.put_word.ensures (fits (goal.at.returns-else-n-ne0 c).Else-n-ne0) ∙ copied o ∙ made _ _ _ e;
+      answer = ap Ok (sym (size_said o.says)) ∙ or_done _ _ e;
+      after = wrote_all c.put_word.ensures (fits (goal.at.returns c).In_ok-refuse_read) ∙ copied o ∙ made _ _ _ e;
     }
-
-pub returns-in-Bad : goal.returns-in-Bad
-returns-in-Bad c =
-    let e = bad_read _ _ (sym c.header.ensures ∙ c.in-Bad.is) in
-    record { answer = or_refused taken.Frame taken.Refused 11 _ _ (sym e) (λ f. omega arith); after = kept 11 _ _ _ (sym e) (λ f. omega arith) }
