@@ -2,16 +2,9 @@
 use Rattle.std.specs.Prelude.{ℕ, suc, List, length}
 use Rattle.rules.specs.declared.Size.{Size}
 use Rattle.pnm.specs.Header.{number, second, third, last, header_of, head_said}
-use Rattle.ppm.specs.declared.Taken.{Taken}
-use Rattle.ppm.specs.declared.Taken.TheVariants as taken
 use Rattle.ppm.specs.File.{file}
 use Rattle.ppm.specs.Promise.{size, pixels, refuse_size, refuse_read, refuse_write}
 use Rattle.boundary.specs.Returns.{Returns}
-
--- what stands in the two places of a size after an answer of the reader
-abbrev pub size_after : Taken → Size → Size
-size_after (taken.Frame z) old = z
-size_after (taken.Refused n) old = old
 
 -- what size may write is the two places of a size
 abbrev pub SizeReturns : List ℕ → Size → ℕ → Size → Type 0

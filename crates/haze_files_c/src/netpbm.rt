@@ -1,25 +1,22 @@
 // Netpbm files for C: a PPM file read into a frame and written from one, and the header of any such file.
 ghost use Rattle.std.specs.Prelude.{◌≡◌};
-ghost use Rattle.ppm.specs.Promise.{length_for, taken_said};
+ghost use Rattle.rules.specs.Answers.{said, left};
+ghost use Rattle.ppm.specs.Promise.{length_for};
 ghost use Rattle.boundary.specs.Handed.{size};
-ghost use Rattle.haze_files_c.specs.Netpbm.{heading, size_after, SizeReturns, read_places, ReadReturns, WriteReturns, HeaderReturns};
+ghost use Rattle.haze_files_c.specs.Netpbm.{heading, SizeReturns, read_places, ReadReturns, WriteReturns, HeaderReturns};
 
 use boundary::{number, sized};
-use pnm::Head;
-use ppm::Taken;
+use rules::{Refusal, Size};
 
 // The number that the reader's answer says; the size of a frame that was taken goes into the two places.
-fn told(taken: Taken, w: &mut u64, h: &mut u64) -> u8
-    ensures { (result ≡ taken_said taken) × (size w.new h.new ≡ size_after taken (size w.old h.old)) }
+fn told(taken: Result<Size, Refusal>, w: &mut u64, h: &mut u64) -> u8
+    ensures { (result ≡ said taken) × (size w.new h.new ≡ left taken (size w.old h.old)) }
 {
-    match taken {
-        Taken::Frame(z) => {
-            *w = z.w as u64;
-            *h = z.h as u64;
-            0
-        }
-        Taken::Refused(n) => n,
+    if let Ok(z) = taken {
+        *w = z.w as u64;
+        *h = z.h as u64;
     }
+    number(taken)
 }
 
 // The size of the picture in a PPM file goes into the two places.
@@ -72,15 +69,14 @@ pub extern "C" fn haze_pnm_header(
         result
         (heading w.new h.new maximum.new start.new) }
 {
-    let head = pnm::header(file, kind);
-    match head {
-        Head::Is(across, down, top, at) => {
-            *w = across as u64;
-            *h = down as u64;
-            *maximum = top as u64;
-            *start = at as u64;
+    match pnm::header(file, kind) {
+        Some(head) => {
+            *w = head.width as u64;
+            *h = head.height as u64;
+            *maximum = head.maximum as u64;
+            *start = head.start as u64;
             0
         }
-        Head::Bad => 11,
+        None => u8::from(Refusal::Header),
     }
 }
