@@ -11,7 +11,7 @@ fn answer<'a>(
     house: &'a [u8],
     name: &[u8],
 ) -> io::Result<()> {
-    let number = settings::setting_refusal(field, house, name);
+    let number = settings::setting_refusal(field, house, name).map_or(0, u8::from);
     write!(out, "{number}\t")?;
     out.write_all(settings::setting(field, house, name))?;
     out.write_all(b"\n")
