@@ -9,7 +9,7 @@ ghost use Rattle.boundary.specs.Handed.{size, settings_in, rgb_in, rect_in, figu
 
 use rules::{Band, Finding, Rect, Refusal, Rgb, Settings, Size};
 
-// ---- what is handed over
+// ---- what is handed over: functions, since a From for a type of `rules` can stand in `rules` alone
 
 // The size that two numbers are.
 pub fn sized(w: u64, h: u64) -> Size

@@ -21,7 +21,7 @@ fn line(n: usize, s: usize) -> usize
     2 * (n - 1 - full) + two
 }
 
-// For all rows and then all columns of a frame of this size at radius s; 0 for a size or radius that is refused.
+// For all rows and then all columns of a frame of this size at radius s. For a size or radius that is refused it is 0, and no None: C has this number.
 pub fn comparisons(z: Size, s: usize) -> u64
     ensures { Budgets z s result }
 {

@@ -76,7 +76,7 @@ pub fn after(s: &[u8], end: usize) -> usize
     (end + 1).min(s.len())
 }
 
-// The n-th part of s between bytes sep, counted from 0, and an empty part at the beginning where there is none.
+// The n-th part of s between bytes sep, counted from 0. Where there is none it is an empty part at the beginning, and no None: `FieldOf` fixes it for every n.
 #[tactic(auto, using(crate::proofs::Split::parts_on), unfolding(crate::specs::Fields::field_at))]
 pub fn part<'a>(s: &'a [u8], sep: u8, n: usize) -> &'a [u8]
     ensures { FieldOf sep s.entry n result }

@@ -32,7 +32,7 @@ fn is_number(line: &[u8], n: usize) -> bool
     fields::read_number(fields::field(line, n)).is_some()
 }
 
-// The number in field n, 0 where there is none.
+// The number in field n. Where there is none it is 0, as the definition has it, and no None: a line is judged before its numbers are used.
 fn number_at(line: &[u8], n: usize) -> usize
     ensures { result ≡ number_at line.now n }
 {
@@ -122,7 +122,7 @@ fn fault_of_px(line: &[u8], count: usize) -> Result<(), Refusal>
     refuse(bright(line), Refusal::Layout)
 }
 
-// Why a line of so many fields is refused as a record of the kind.
+// Why a line of so many fields is refused as a record of the kind: over the kinds, as `fault` and the verdict on a text are.
 fn fault_of(kind: Kind, line: &[u8], count: usize) -> Result<(), Refusal>
     requires { count ≡ length (split 9 line.now) }
     ensures { said result ≡ fault kind line.now }

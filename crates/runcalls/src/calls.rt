@@ -7,7 +7,7 @@ use std::io;
 use std::io::Write;
 use telling::{kind, say_answer, say_band, say_budget, say_count, say_entries, say_finding};
 
-// ---- what the numbers of a line say
+// ---- what the numbers of a line say: functions, since a From for a type of `rules` can stand in `rules` alone
 
 fn size(args: &[u64; 24]) -> Size {
     Size {

@@ -34,7 +34,7 @@ impl Reading {
     }
 }
 
-// The numbers of a line, in order, and 0 where there are no more.
+// The numbers of a line, in order, and 0 where there are no more, as the input has it.
 pub(crate) fn numbers(line: &[u8]) -> [u64; 24] {
     let mut reading = Reading {
         numbers: [0; 24],

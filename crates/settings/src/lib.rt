@@ -47,7 +47,7 @@ fn is_kept(line: &[u8], count: usize) -> bool
     is_word(fields::field(line, 2))
 }
 
-// Whether every line of a text is such a line and is ended.
+// Whether every line of a text is such a line and is ended. The next line begins where this one's end says: the place is no counter.
 fn is_good(text: &[u8]) -> bool
     ensures { result ≡ good text.now }
 {
@@ -68,7 +68,7 @@ fn is_good(text: &[u8]) -> bool
 
 // ---- where a name's value stands
 
-// The first line with a name, by its number from 0.
+// The first line with a name, by its number from 0. The last part of the text is no line, so an iterator over parts would have to know which is the last.
 fn first_with(text: &[u8], name: &[u8]) -> Option<usize>
     ensures { result ≡ first_with text.now name.now }
 {
@@ -126,7 +126,8 @@ fn choose(field: &[u8], house: &[u8], name: &[u8]) -> Result<Source, Refusal>
 
 // ---- the calls
 
-// The value of the name: the field text's own part where that has the name, otherwise the house text's. Empty exactly on a refusal.
+// The value of the name: the field text's own part where that has the name, otherwise the house text's. Empty exactly on a refusal, and no Err: `Setting`
+// fixes the part for every input, and the call cannot fail.
 pub fn setting<'a>(field: &'a [u8], house: &'a [u8], name: &[u8]) -> &'a [u8]
     ensures { Setting field.entry house.entry name.now result }
 {
