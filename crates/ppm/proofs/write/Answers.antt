@@ -2,17 +2,12 @@
 use mathlib.Core.Path.{sym, ◌∙◌}
 use native.Mathlib.Omega.{arith}
 use lib.ListN.{length}
-use Rattle.rules.proofs.Answers.{number_some, or_refused, or_done, error_is, kept, made}
+use Rattle.rules.proofs.Answers.{or_done, made}
 use Rattle.fields.proofs.Written.{then, wrote_all}
 use Rattle.ppm.proofs.Long.{head_long, long_is}
 use Rattle.ppm.proofs.Reading.{Writable, writable}
 use Rattle.ppm.proofs.write.Goals as goal
 use Rattle.ppm.proofs.write.Goals.{In_ok-refuse_write}
-
-pub returns-in_err-refuse_write : goal.returns-in_err-refuse_write
-returns-in_err-refuse_write c =
-    let e = c.in_err-refuse_write.ensures in
-    record { answer = error_is _ _ c.from_residual.ensures ∙ or_refused _ _ _ e; after = kept _ _ _ _ e (number_some _) }
 
 known : (c : In_ok-refuse_write) → let a = c.args in Writable a.z (length a.frame.now) (length a.out.now)
 known c = writable _ _ _ (sym c.in_ok-refuse_write.ensures)
