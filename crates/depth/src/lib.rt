@@ -5,31 +5,30 @@ mod thresholds;
 
 ghost use Rattle.std.specs.Prelude.{◌≡◌, map as each, ℕ, ◌≤◌, length, get_or};
 ghost use Rattle.rules.specs.Answers.{or};
-ghost use Rattle.depth.specs.Table.{thresholds, depth_of, every_depth};
+ghost use Rattle.depth.specs.Table.{depth_of, every_depth};
 ghost use Rattle.depth.specs.Promise.{refuse_depths, Depths};
 
 use judge::{wrong_entries, wrong_map, wrong_size};
 use rules::{Refusal, Size};
-use thresholds::stored;
+use thresholds::{Table, stored};
 
 // The depth of one entry: the first place of the table whose entry is at most 100,000 t, its length where there is none. The table only falls, so it is found by
 // halves.
-fn depth_by(table: &[u32], t: u16) -> u16
-    requires { table.now ≡ thresholds }
+fn depth_by(table: &Table, t: u16) -> u16
     ensures { result ≡ depth_of t }
 {
     let bound = 100000 * u64::from(t);
-    table.partition_point(|x| u64::from(*x) > bound) as u16
+    table.entries.partition_point(|x| u64::from(*x) > bound) as u16
 }
 
 // The depth of t, walked to from a number that is no less: of many t in a row, each begins where the one before it ended.
-fn fallen(table: &[u32], t: usize, from: usize) -> usize
-    requires { (table.now ≡ thresholds) × (t ≤ 10000) × (depth_of t ≤ from) × (from ≤ 918) }
+fn fallen(table: &Table, t: usize, from: usize) -> usize
+    requires { (t ≤ 10000) × (depth_of t ≤ from) × (from ≤ 918) }
     ensures { result ≡ depth_of t }
 {
     let bound = 100000 * (t as u64);
     for at in (0..from).rev() {
-        if u64::from(table[at]) > bound {
+        if u64::from(table.entries[at]) > bound {
             return at + 1;
         }
     }
@@ -37,11 +36,11 @@ fn fallen(table: &[u32], t: usize, from: usize) -> usize
 }
 
 // The depth of each t from 0 to 10,000. More transmission never means more depth, so the table is walked once, from its end.
-fn fill(table: &[u32], every: &mut [u16])
-    requires { (table.now ≡ thresholds) × (length every.old ≡ 10001) }
+fn fill(table: &Table, every: &mut [u16])
+    requires { length every.old ≡ 10001 }
     ensures { every.new ≡ every_depth }
 {
-    let mut d = table.len();
+    let mut d = table.entries.len();
     for (t, place) in every.iter_mut().enumerate() {
         d = fallen(table, t, d);
         *place = d as u16;

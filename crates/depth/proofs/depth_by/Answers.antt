@@ -9,14 +9,14 @@ use Rattle.depth.proofs.Table.{count, falling}
 use Rattle.depth.proofs.depth_by.Goals as goal
 
 pub overflow_cast-result : goal.overflow_cast-result
-overflow_cast-result c = let e = ap length c.requires in omega (arith, count)
+overflow_cast-result c = let e = ap length c.args.table.now.whole in omega (arith, count)
 
 pub returns : goal.returns
 unfolding depth_of
 returns c =
     let m = 100000 * c.args.t in
-    let t = c.args.table.now in
-    let e : t ≡ thresholds = c.requires in
+    let t = c.args.table.now.entries in
+    let e : t ≡ thresholds = c.args.table.now.whole in
     let falls : IsPartitionedBy (ltb m) t = rw e (parted m thresholds falling) in
     let point = IsPartitionPoint-from_clause (ltb m) t c.partition_point.result c.partition_point.ensures.partitioned falls (λ a r q k. search rules) in
     let place = parts m t c.partition_point.result c.partition_point.ensures.bound point in

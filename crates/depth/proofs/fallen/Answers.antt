@@ -10,13 +10,13 @@ use Rattle.depth.proofs.Table.{count, falling}
 use Rattle.depth.proofs.fallen.Goals as goal
 
 pub bounds-table-at : goal.bounds-table-at
-bounds-table-at c = let e = ap length c.requires.0 in omega (arith, count)
+bounds-table-at c = let e = ap length c.args.table.now.whole in omega (arith, count)
 
 pub returns-then-from-bound : goal.returns-then-from-bound
 unfolding depth_of
 returns-then-from-bound c =
     let k = c.loop-at.at - 1 in
-    let e = ap (λ (l : List ℕ). get_or l k 0) c.requires.0 in
+    let e = ap (λ (l : List ℕ). get_or l k 0) c.args.table.now.whole in
     let after = later (100000 * c.args.t) thresholds falling k (omega (arith, count)) (omega arith) in
     omega arith
 
@@ -24,5 +24,5 @@ pub loop-at-preserved : goal.loop-at-preserved
 unfolding depth_of
 loop-at-preserved c =
     let k = c.loop-at.at - 1 in
-    let e = ap (λ (l : List ℕ). get_or l k 0) c.requires.0 in
+    let e = ap (λ (l : List ℕ). get_or l k 0) c.args.table.now.whole in
     no_later (100000 * c.args.t) thresholds k (omega arith)

@@ -13,11 +13,11 @@ use Rattle.depth.proofs.fill.Goals as goal
 pub loop-t-init : goal.loop-t-init
 loop-t-init c =
     let b = (bounds 0).most in
-    let e = ap length c.requires.0 in
+    let e = ap length c.args.table.now.whole in
     record { falls = omega (arith, count); most = omega (arith, count); passed = λ k h. absurd (omega arith) }
 
 pub fallen-d-requires : goal.fallen-d-requires
-fallen-d-requires c = (c.requires.0, omega arith, c.loop-t.invariant.falls, c.loop-t.invariant.most)
+fallen-d-requires c = (omega arith, c.loop-t.invariant.falls, c.loop-t.invariant.most)
 
 pub overflow_cast-place : goal.overflow_cast-place
 overflow_cast-place c = let b = (bounds c.loop-t.t).most in omega arith

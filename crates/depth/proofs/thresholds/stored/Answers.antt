@@ -1,8 +1,8 @@
--- `depth::thresholds::stored` meets its contract: the table in the code is that of the rule, by computing both. Assumes nothing.
+-- `depth::thresholds::stored` makes a table: that in the code is that of the rule, by computing both. Assumes nothing.
 use mathlib.Core.Path.{refl}
 use Rattle.depth.specs.Table.{thresholds}
 use Rattle.depth.proofs.thresholds.stored.Goals as goal
 
-pub returns : goal.returns
+pub invariant_of-result : goal.invariant_of-result
 unfolding thresholds
-returns c = refl
+invariant_of-result c = record { whole = refl }
