@@ -35,9 +35,5 @@ pub fn wipe(work: &mut [i64], n: usize)
     requires { n ≤ length work.old }
     ensures { work.new ≡ replicate n (pos 0) ++ drop n work.old }
 {
-    let mut i = 0;
-    while i < n {
-        work[i] = 0;
-        i += 1;
-    }
+    work[..n].fill(0);
 }

@@ -1,2 +1,3 @@
 -- The definitions that the contracts of the window sizes cite.
 pub mod Sizes
+pub mod Bits

@@ -1,8 +1,9 @@
 -- Sizes of the windows about a row's pixels, and their reciprocals. Assumes nothing.
-use Rattle.std.specs.Prelude.{◌≡◌, ◌⊎◌, Bool, not, cond, List, map, ℕ, ◌+◌, ◌-◌, ◌≤◌, ◌<◌, max, eqb, get_or, length, ℤ, pos, nat_abs, ◌+ℤ◌}
+use Rattle.std.specs.Prelude.{◌≡◌, ◌⊎◌, Bool, not, cond, List, map, ℕ, ◌+◌, ◌-◌, ◌*◌, ◌≤◌, ◌<◌, max, eqb, get_or, length, ℤ, pos, nat_abs, ◌+ℤ◌}
 use Rattle.rules.specs.Window.{Plane, square, total}
 use Rattle.rules.specs.Fold.{Σ}
 use Rattle.planes.specs.declared.View.{View}
+use Rattle.planes.specs.View.{InPlane}
 use Rattle.planes.specs.Stage.{box_seen}
 use Rattle.sums.specs.Sum.{entry}
 use Rattle.pixel.specs.Over.{Over, parts}
@@ -45,6 +46,12 @@ pub record Unchanged (M : Plane Bool) (w h r y : ℕ) : Type 0 where
 -- the mask as ones and zeros
 abbrev pub bits_of : List ℕ → List ℤ
 bits_of mask = map (λ (m : ℕ). bit (shows m)) mask
+
+-- row y of the box b stands in the mask
+pub record Row (b : View) (mask : List ℕ) (y : ℕ) : Type 0 where
+  pub box : InPlane b
+  pub inside : y < b.tall
+  pub bytes : length mask ≡ b.w * b.h
 
 -- a count
 abbrev pub Count : ℤ → Type 0

@@ -4,70 +4,61 @@
 #![tactic(auto)]
 
 ghost use Rattle.std.specs.Prelude.{◌≡◌, true, ℕ, ◌+◌, ◌-◌, ◌≤◌, ◌<◌, max, length, get_or, pos, nat_abs};
-ghost use Rattle.planes.specs.View.{InPlane, Framed};
+ghost use Rattle.planes.specs.View.{InPlane, Framed, row_start};
 ghost use Rattle.planes.specs.Stage.{box_seen};
-ghost use Rattle.sums.specs.Sum.{kept, Columns, Spannable, RowIn, Rewritten, entered, left};
+ghost use Rattle.sums.specs.Sum.{kept, Columns, Spannable};
 ghost use Rattle.pixel.specs.Over.{Over, parts};
-ghost use Rattle.sizes.specs.Sizes.{Table, Sizes, Unchanged, shows, bit, bit_plane, bits_of, Count, span_at, Counted, Countable, Inverted};
+ghost use Rattle.sizes.specs.Bits.{row_ends, row_stands};
+ghost use Rattle.sizes.specs.Sizes.{Table, Sizes, Unchanged, Row, shows, bit_plane, bits_of, Count, span_at, Counted, Countable, Inverted};
 
-use numbers::{cut, less};
 use pixel::reciprocal;
-use planes::{View, row_start};
-use sums::first;
+use planes::{View, row_start, seen_or};
+use sums::{Source, advance, begin_of, first};
 
 // ---- the mask
 
-// 1 for a pixel that is seen.
-fn seen(m: u8) -> i64
-    ensures { result ≡ bit (shows m) }
-{
-    if m == 0 { 0 } else { 1 }
-}
-
-// 1 where one of two pixels is seen and the other is hidden.
-fn differ(m: u8, o: u8) -> u32
-    ensures { (result ≤ 1) × (result ≡ 0 → shows m ≡ shows o) }
-{
-    if (m == 0) == (o == 0) { 0 } else { 1 }
-}
-
 // Whether the n pixels from `at` on and those from `other` on are seen alike. All are looked at: that is quicker than a way out at the first that differs.
 fn alike(mask: &[u8], at: usize, other: usize, n: usize) -> bool
-    requires { (at + n ≤ length mask.now) × (other + n ≤ length mask.now) × (n ≤ 1024) }
+    requires { (at + n ≤ length mask.now) × (other + n ≤ length mask.now) }
     ensures { result ≡ true → (i : ℕ) → i < n → shows (get_or mask.now (at + i) 0) ≡ shows (get_or mask.now (other + i) 0) }
 {
-    let mut d: u32 = 0;
-    let mut i = 0;
-    while i < n {
-        d = d + differ(mask[at + i], mask[other + i]);
-        i += 1;
+    let mut same = true;
+    for i in 0..n {
+        same &= (mask[at + i] == 0) == (mask[other + i] == 0);
     }
-    d == 0
+    same
 }
 
 // ---- the columns
 
-// The n columns from place `to` on take in the n pixels of the mask from `at` on.
-fn take_in(cols: &mut [i64], to: usize, mask: &[u8], at: usize, n: usize)
-    requires { RowIn cols.old to (bits_of mask.now) at n × (at + n ≤ length mask.now) }
-    ensures { Rewritten cols.old cols.new to n (entered cols.old to (bits_of mask.now) at) }
-{
-    let mut i = 0;
-    while i < n {
-        cols[to + i] = cols[to + i] + seen(mask[at + i]);
-        i += 1;
-    }
+// The box b of a mask, as a plane of ones, for pixels that are seen, and zeros.
+#[derive(Clone, Copy)]
+struct Seen<'a> {
+    mask: &'a [u8],
+    b: View,
 }
 
-// The n columns from place `to` on let out the n pixels of the mask from `at` on.
-fn let_out(cols: &mut [i64], to: usize, mask: &[u8], at: usize, n: usize)
-    requires { RowIn cols.old to (bits_of mask.now) at n × (at + n ≤ length mask.now) }
-    ensures { Rewritten cols.old cols.new to n (left cols.old to (bits_of mask.now) at) }
-{
-    let mut i = 0;
-    while i < n {
-        cols[to + i] = cols[to + i] - seen(mask[at + i]);
-        i += 1;
+impl<'a> Source for Seen<'a> {
+    ghost plane = { λ s. bit_plane s.b s.mask.now };
+
+    ghost wide = { λ s. s.b.wide };
+
+    ghost has_row = { λ s y. Row s.b s.mask.now y };
+
+    ghost entries = { λ s. bits_of s.mask.now };
+
+    ghost place = { λ s y. row_start s.b y };
+
+    ghost ends = { λ s y p. row_ends s.b s.mask.now y p };
+
+    ghost stands = { λ s y x. row_stands s.b s.mask.now y x };
+
+    fn start(self, y: usize) -> usize {
+        row_start(self.b, y)
+    }
+
+    fn read(self, at: usize, x: usize) -> i64 {
+        seen_or(self.mask[at + x], 1, 0)
     }
 }
 
@@ -76,30 +67,7 @@ pub fn begin(cols: &mut [i64], mask: &[u8], b: View, v: View, r: usize)
     requires { InPlane v × Framed b v mask.now × (r ≤ 60) × (length cols.old ≡ kept) × ((k : ℕ) → get_or cols.old k (pos 0) ≡ pos 0) }
     ensures { Columns cols.new (bit_plane b mask.now) v.w v.h r v.top }
 {
-    let end = cut(v.top, r, v.h);
-    let mut y = less(v.top, r + 1);
-    while y < end {
-        take_in(cols, r + 1, mask, row_start(b, y), v.w);
-        y += 1;
-    }
-}
-
-// The columns from before row y of the box to before the next: a row enters unless it is below the box, and one leaves unless it is above it.
-fn advance(cols: &mut [i64], mask: &[u8], b: View, v: View, r: usize, y: usize)
-    requires in_plane { InPlane v × Framed b v mask.now × (r ≤ 60) × (y < v.h) }
-    requires columns { Columns cols.old (bit_plane b mask.now) v.w v.h r y }
-    ensures { Columns cols.new (bit_plane b mask.now) v.w v.h r (y + 1) }
-{
-    if v.h <= y + r {
-        if r < y {
-            let_out(cols, r + 1, mask, row_start(b, y - r - 1), v.w);
-        }
-        return;
-    }
-    take_in(cols, r + 1, mask, row_start(b, y + r), v.w);
-    if r < y {
-        let_out(cols, r + 1, mask, row_start(b, y - r - 1), v.w);
-    }
+    begin_of(cols, Seen { mask, b }, v, r);
 }
 
 // Whether the columns before row y + 1 of the box are those before row y: one row enters and another leaves, and they are seen alike.
@@ -107,13 +75,7 @@ fn unchanged(mask: &[u8], b: View, v: View, r: usize, y: usize) -> bool
     requires { InPlane v × Framed b v mask.now × (r ≤ 60) × (y < v.h) }
     ensures { result ≡ true → Unchanged (box_seen b mask.now) v.w v.h r y }
 {
-    if y <= r {
-        return false;
-    }
-    if v.h <= y + r {
-        return false;
-    }
-    alike(mask, row_start(b, y + r), row_start(b, y - r - 1), v.w)
+    r < y && y + r < v.h && alike(mask, row_start(b, y + r), row_start(b, y - r - 1), v.w)
 }
 
 // ---- the sizes
@@ -123,7 +85,7 @@ fn size_of(n: i64) -> u64
     requires { Count n }
     ensures { result ≡ max 1 (nat_abs n) }
 {
-    if n < 1 { 1 } else { n as u64 }
+    n.max(1) as u64
 }
 
 // The sizes of n windows of d columns: of each the sum of the d columns after its place, which is from x on.
@@ -133,12 +95,10 @@ fn size_row(cols: &[i64], x: usize, d: usize, n: usize, ns: &mut [u64])
     ensures { Counted cols.now x d n ns.new }
 {
     let mut s = first(cols, x, x + d);
-    let mut i = 0;
-    while i < n {
+    for i in 0..n {
         let a = x + i;
-        s = s + (cols[a + d] - cols[a]);
+        s += cols[a + d] - cols[a];
         ns[i] = size_of(s);
-        i += 1;
     }
 }
 
@@ -149,6 +109,7 @@ fn inverse_of(table: &mut [u64], n: usize) -> u64
     ensures over { Over 1 n parts result }
 {
     let known = table[n];
+    // 0 stands for a reciprocal that is not known: an Option of each would double the table.
     if known != 0 {
         return known;
     }
@@ -163,10 +124,8 @@ fn inverse_row(table: &mut [u64], m: usize, ns: &[u64], inverses: &mut [u64])
     ensures table { Table table.new }
     ensures over { Inverted m ns.now inverses.new }
 {
-    let mut i = 0;
-    while i < m {
+    for i in 0..m {
         inverses[i] = inverse_of(table, ns[i] as usize);
-        i += 1;
     }
 }
 
@@ -190,12 +149,10 @@ pub fn resize(
     ensures sizes { Sizes v r (box_seen b mask.now) (v.top + y) ns.new inverses.new }
 {
     let at = v.top + y;
-    if 0 < y {
-        if unchanged(mask, b, v, r, at) {
-            return;
-        }
+    if 0 < y && unchanged(mask, b, v, r, at) {
+        return;
     }
-    advance(cols, mask, b, v, r, at);
+    advance(cols, Seen { mask, b }, v, r, at);
     size_row(cols, v.left, 2 * r + 1, v.wide, ns);
     inverse_row(table, v.wide, ns, inverses);
 }

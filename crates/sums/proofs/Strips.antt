@@ -12,7 +12,7 @@ use Rattle.rules.specs.Fold.{Σ}
 use Rattle.rules.proofs.Fold.{total_square, swap}
 use Rattle.planes.specs.declared.View.{View}
 use Rattle.planes.specs.Cells.{cells}
-use Rattle.sums.specs.Sum.{value_most, column_most, kept, entry, range_sum, Summable, Columns, RowSums, RowIn, Rewritten, entered, left, slid, Spannable, Spans}
+use Rattle.sums.specs.Sum.{value_most, column_most, kept, entry, range_sum, Summable, Readable, Columns, RowSums, RowIn, Rewritten, entered, left, slid, Spannable, Spans}
 use Rattle.sums.proofs.Runs.{range_none, range_more, range_less, range_size, Padded, padded_sum}
 
 -- ---- a row of the plane
@@ -20,10 +20,6 @@ use Rattle.sums.proofs.Runs.{range_none, range_more, range_less, range_size, Pad
 -- row u of the plane f of w columns stands in the list from place `at` on
 abbrev pub RowAt : List ℤ → ℕ → Plane ℤ → ℕ → ℕ → Type 0
 RowAt l at f w u = (x : ℕ) → x < w → entry l (at + x) ≡ f u x
-
--- so it does of a plane at the list's front
-pub cells_row : (plane : List ℤ) (w u : ℕ) → RowAt plane (u * w) (cells plane 0 w) w u
-cells_row plane w u x q = let e : u * w + x ≡ 0 + (u * w + x) = omega arith in ap (entry plane) e
 
 -- a plane f of w by h whose values are of size at most B, and the radius of the squares
 pub record Small (f : Plane ℤ) (w h r B : ℕ) : Type 0 where
@@ -34,6 +30,9 @@ pub record Small (f : Plane ℤ) (w h r B : ℕ) : Type 0 where
 
 pub summable_small : {plane : List ℤ} {v : View} {r : ℕ} → Summable plane v r → Small (cells plane 0 v.w) v.w v.h r value_most
 summable_small s = record { short = s.in_plane.short; r_most = s.r_most; few = omega arith; small = s.small }
+
+pub readable_small : {f : Plane ℤ} {wide : ℕ} {has_row : ℕ → Type 0} {v : View} {r : ℕ} → Readable f wide has_row v r → Small f v.w v.h r value_most
+readable_small s = record { short = s.in_plane.short; r_most = s.r_most; few = omega arith; small = s.small }
 
 -- the columns of the first k rows of the plane, before row y
 module _ {f : Plane ℤ} {cols : List ℤ} {w h k r y B : ℕ} (s : Small f w h r B) (c : Columns cols f w k r y) (le : k ≤ h) where
@@ -63,6 +62,16 @@ module _ {f : Plane ℤ} {cols : List ℤ} {w h k r y B : ℕ} (s : Small f w h 
           let e : k ≡ r + 1 + (k - (r + 1)) = omega arith in
           rw e (omega (arith, column_size (k - (r + 1)) (omega arith), s.few))
       by k (no p) (no q) = rw (c.after k (omega arith)) (omega arith)
+
+-- a plane that can be read, whose rows stand in a list
+module _ {f : Plane ℤ} {wide : ℕ} {has_row : ℕ → Type 0} {v : View} {r : ℕ} (place : ℕ → ℕ) (entries : List ℤ) (p : Readable f wide has_row v r)
+    (ends : (y : ℕ) → has_row y → place y + wide ≤ length entries) (stands : (y x : ℕ) → entry entries (place y + x) ≡ f y x) where
+  pub row_reads : (at u : ℕ) → at ≡ place u → RowAt entries at f v.w u
+  row_reads at u e x q = rw e (stands u x)
+
+  pub row_enters : {cols : List ℤ} {k y : ℕ} → Columns cols f v.w k r y → k ≤ v.h → (at u : ℕ) → at ≡ place u → u < v.h → RowIn cols (r + 1) entries at v.w
+  row_enters c le at u e hu =
+      row_in (readable_small p) c le entries at u (row_reads at u e) hu (omega (arith, ends u (p.rows u hu), p.wide, e))
 
 -- ---- a row more, or a row less
 

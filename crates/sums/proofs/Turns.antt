@@ -1,8 +1,8 @@
 -- One turn of the loops over a row: what the machine computes of two numbers that are small, and one entry more of a row, or one sum more. Assumes nothing.
-use mathlib.Core.Path.{◌≡◌, refl, ap, ap₂, ◌∙◌}
+use mathlib.Core.Path.{◌≡◌, ap, ◌∙◌}
 use mathlib.Core.List.{List}
 use Prim.Native.Nat.{ℕ, ◌+◌, ◌-◌, ◌*◌, ◌^◌, ◌≤◌, ◌<◌}
-use native.Mathlib.Nat.{not-suc-le-zero, mul-le-mul_right}
+use native.Mathlib.Nat.{mul-le-mul_right}
 use native.Mathlib.Decide.{dec_lt}
 use native.Mathlib.Omega.{arith}
 use lib.IntN.{ℤ, pos, nat_abs, ◌+ℤ◌, ◌-ℤ◌}
@@ -38,10 +38,6 @@ module _ (a b : ℤ) (M N : ℕ) (ha : nat_abs a ≤ M) (hb : nat_abs b ≤ N) (
 
 -- ---- a row
 
--- none is rewritten
-pub rewritten_none : (l : List ℤ) (to : ℕ) (g : ℕ → ℤ) → Rewritten l l to 0 g
-rewritten_none l to g = record { is = λ i q. absurd (not-suc-le-zero q); rest = λ k q. refl }
-
 -- i of n columns are rewritten
 pub record Turn (l m : List ℤ) (to : ℕ) (plane : List ℤ) (at n i : ℕ) (g : ℕ → ℤ) : Type 0 where
   pub pre : RowIn l to plane at n
@@ -55,17 +51,18 @@ module _ {l m : List ℤ} {to : ℕ} {plane : List ℤ} {at n i : ℕ} {g : ℕ 
   here = t.out.rest (to + i) (λ p q. omega arith)
 
   -- what it becomes in each of the three loops
-  pub enters : Computes (rd (entry m (to + i)) +ℤ rd (entry plane (at + i))) (entered l to plane at i) (column_most + value_most)
-  enters = rw here (sum (entry l (to + i)) (entry plane (at + i)) column_most value_most (t.pre.held i t.less) (t.pre.small i t.less) (omega arith))
+  pub enters : (s : ℤ) → s ≡ entry plane (at + i) → Computes (rd (entry m (to + i)) +ℤ rd s) (entered l to plane at i) (column_most + value_most)
+  enters s e = rw (here, e) (sum (entry l (to + i)) (entry plane (at + i)) column_most value_most (t.pre.held i t.less) (t.pre.small i t.less) (omega arith))
 
-  pub leaves : Computes (rd (entry m (to + i)) -ℤ rd (entry plane (at + i))) (left l to plane at i) (column_most + value_most)
-  leaves = rw here (difference (entry l (to + i)) (entry plane (at + i)) column_most value_most (t.pre.held i t.less) (t.pre.small i t.less) (omega arith))
+  pub leaves : (s : ℤ) → s ≡ entry plane (at + i) → Computes (rd (entry m (to + i)) -ℤ rd s) (left l to plane at i) (column_most + value_most)
+  leaves s e = rw (here, e) (difference (entry l (to + i)) (entry plane (at + i)) column_most value_most (t.pre.held i t.less) (t.pre.small i t.less) (omega arith))
 
-  pub slides : (old : ℕ) → RowIn l to plane old n
-      → Computes (rd (rd (entry m (to + i)) +ℤ rd (entry plane (at + i))) -ℤ rd (entry plane (old + i))) (slid l to plane at old i) (column_most + value_most + value_most)
-  slides old p =
-      rw enters.is
-      (difference (entered l to plane at i) (entry plane (old + i)) (column_most + value_most) value_most enters.size (p.small i t.less) (omega arith))
+  pub slides : (old : ℕ) → RowIn l to plane old n → (s o : ℤ) → s ≡ entry plane (at + i) → o ≡ entry plane (old + i)
+      → Computes (rd (rd (entry m (to + i)) +ℤ rd s) -ℤ rd o) (slid l to plane at old i) (column_most + value_most + value_most)
+  slides old p s o e d =
+      let c = enters s e in
+      rw (c.is, d)
+      (difference (entered l to plane at i) (entry plane (old + i)) (column_most + value_most) value_most c.size (p.small i t.less) (omega arith))
 
   -- and is written
   pub turned : (v : ℤ) {M : ℕ} → Computes v (g i) M → Rewritten l (set m (to + i) (rd v)) to (i + 1) g
@@ -113,13 +110,6 @@ module _ (cols : List ℤ) (s : Spannable cols) where
 pub record Holds (cols : List ℤ) (x d i : ℕ) (acc : ℤ) : Type 0 where
   pub value : acc ≡ rd (Σ ◌+ℤ◌ (pos 0) (x + i) d (entry cols))
 
--- the first, from x on
-pub holds_first : (cols : List ℤ) (x d : ℕ) (v : ℤ) → v ≡ range_sum (entry cols) x (x + d) → Holds cols x d 0 (rd v)
-holds_first cols x d v e =
-    let n : x + d - x ≡ d = omega arith in
-    let a : x ≡ x + 0 = omega arith in
-    record { value = ap rd (e ∙ ap₂ (λ (p k : ℕ). Σ ◌+ℤ◌ (pos 0) p k (entry cols)) a n) }
-
 module _ {cols : List ℤ} {x d i : ℕ} {acc : ℤ} (s : Spannable cols) (h : d ≤ 121) (b : Holds cols x d i acc) where
   -- what the sum becomes when it moves on by one column
   abbrev pub moved : ℤ
@@ -147,10 +137,6 @@ pub record Running (n : ℕ) (out cols : List ℤ) (x d i : ℕ) (acc : ℤ) : T
   pub long : length out ≡ n
   pub holds : Holds cols x d i acc
   pub spans : Spans out cols x d i
-
--- no sum yet
-pub running_none : (out cols : List ℤ) (x d : ℕ) (v : ℤ) → v ≡ range_sum (entry cols) x (x + d) → Running (length out) out cols x d 0 (rd v)
-running_none out cols x d v e = record { long = refl; holds = holds_first cols x d v e; spans = record { is = λ i q. absurd (not-suc-le-zero q) } }
 
 -- one sum more
 pub running_more : {n : ℕ} {out cols : List ℤ} {x d i : ℕ} {acc : ℤ} (s : Spannable cols) (h : d ≤ 121) (r : Running n out cols x d i acc) → i < n

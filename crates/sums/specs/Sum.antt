@@ -2,6 +2,8 @@
 -- holds of the values of every plane (two words of a sample, slope, offset), so a sum over at most 121 by 121 of them stays below 2^62.
 -- Assumes nothing.
 use Rattle.std.specs.Prelude.{◌≡◌, List, ℕ, ◌+◌, ◌-◌, ◌*◌, ◌≤◌, ◌<◌, min, get_or, length, ℤ, pos, nat_abs, ◌+ℤ◌, ◌-ℤ◌}
+use mathlib.Core.Path.{ap, sym}
+use native.Mathlib.Nat.{zero-add}
 use Rattle.rules.specs.Window.{Plane, square, total_z}
 use Rattle.rules.specs.Fold.{Σ}
 use Rattle.planes.specs.declared.View.{View}
@@ -18,6 +20,18 @@ pub record Summable (l : List ℤ) (v : View) (r : ℕ) : Type 0 where
   pub r_most : r ≤ 60
   pub room : v.w * v.h ≤ length l
   pub small : (y x : ℕ) → y < v.h → x < v.w → nat_abs (cells l 0 v.w y x) ≤ value_most
+
+-- a plane f whose rows can be read and whose values are small, as wide and as high as that of the box v, and the radius of the squares
+pub record Readable (f : Plane ℤ) (w : ℕ) (has_row : ℕ → Type 0) (v : View) (r : ℕ) : Type 0 where
+  pub in_plane : InPlane v
+  pub r_most : r ≤ 60
+  pub wide : w ≡ v.w
+  pub rows : (y : ℕ) → y < v.h → has_row y
+  pub small : (y x : ℕ) → y < v.h → x < v.w → nat_abs (f y x) ≤ value_most
+
+-- row y of a plane at the list's front
+pub cells_row : (plane : List ℤ) (w y x : ℕ) → get_or plane (y * w + x) (pos 0) ≡ cells plane 0 w y x
+cells_row plane w y x = ap (λ (i : ℕ). get_or plane i (pos 0)) (sym (zero-add (y * w + x)))
 
 -- f a + .. + f (b - 1), and 0 where b is at most a
 abbrev pub range_sum : (ℕ → ℤ) → ℕ → ℕ → ℤ

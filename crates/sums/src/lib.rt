@@ -1,81 +1,160 @@
 // Sums over squares that slide: the sums of the squares' rows, column by column, kept from one row of the box to the next, and along the row of them.
 #![tactic(auto)]
 
-ghost use Rattle.std.specs.Prelude.{◌≡◌, ℕ, ◌+◌, ◌*◌, ◌≤◌, ◌<◌, length, get_or, pos};
+ghost use Rattle.std.specs.Prelude.{◌≡◌, List, ℕ, ◌+◌, ◌*◌, ◌≤◌, ◌<◌, length, get_or, ℤ, pos};
+ghost use Rattle.rules.specs.Window.{Plane};
 ghost use Rattle.planes.specs.Cells.{cells};
-ghost use Rattle.sums.specs.Sum.{Summable, Columns, RowSums, kept, entry, range_sum, RowIn, Rewritten, entered, left, slid, Spannable, Spans};
+ghost use Rattle.sums.specs.Sum.{Summable, Readable, Columns, RowSums, kept, entry, range_sum, RowIn, Rewritten, entered, left, slid, Spannable, Spans, cells_row};
 
-use numbers::{cut, less};
 use planes::View;
+
+// ---- what is summed
+
+// A plane of integers, whose rows stand in a list.
+pub trait Source {
+    // The plane, its width, and which of its rows can be read.
+    ghost plane: { Self → Plane ℤ };
+
+    ghost wide: { Self → ℕ };
+
+    ghost has_row: { Self → ℕ → Type 0 };
+
+    // The list, and the place where row y begins in it.
+    ghost entries: { Self → List ℤ };
+
+    ghost place: { Self → ℕ → ℕ };
+
+    fn start(self, y: usize) -> usize
+        requires { has_row self y }
+        ensures { result ≡ place self y };
+
+    // The entry that is x places after place `at`.
+    fn read(self, at: usize, x: usize) -> i64
+        requires { at + x < length (entries self) }
+        ensures { result ≡ get_or (entries self) (at + x) (pos 0) };
+
+    // A row ends in the list, and is the plane's.
+    ghost ends: { (s : Self) (y : ℕ) → has_row s y → place s y + wide s ≤ length (entries s) };
+
+    ghost stands: { (s : Self) (y x : ℕ) → get_or (entries s) (place s y + x) (pos 0) ≡ plane s y x };
+}
+
+// A plane at the front of lent values.
+#[derive(Clone, Copy)]
+struct Values<'a> {
+    values: &'a [i64],
+    w: usize,
+}
+
+impl<'a> Source for Values<'a> {
+    ghost plane = { λ s. cells s.values.now 0 s.w };
+
+    ghost wide = { λ s. s.w };
+
+    ghost has_row = { λ s y. y * s.w + s.w ≤ length s.values.now };
+
+    ghost entries = { λ s. s.values.now };
+
+    ghost place = { λ s y. y * s.w };
+
+    ghost ends = { λ s y p. p };
+
+    ghost stands = { λ s y x. cells_row s.values.now s.w y x };
+
+    fn start(self, y: usize) -> usize {
+        y * self.w
+    }
+
+    fn read(self, at: usize, x: usize) -> i64 {
+        self.values[at + x]
+    }
+}
 
 // ---- a row more, or a row less
 
+// Three loops: with one that is given the step as a closure, what its calls ask of a generic source was tried, and the proof did not close.
+
 // The n columns from place `to` on take in the n values from place `at` on.
-fn enter(cols: &mut [i64], to: usize, plane: &[i64], at: usize, n: usize)
-    requires { RowIn cols.old to plane.now at n }
-    ensures { Rewritten cols.old cols.new to n (entered cols.old to plane.now at) }
+fn enter<S: Source + Copy>(cols: &mut [i64], to: usize, source: S, at: usize, n: usize)
+    requires { RowIn cols.old to (S.entries source) at n }
+    ensures { Rewritten cols.old cols.new to n (entered cols.old to (S.entries source) at) }
 {
-    let mut i = 0;
-    while i < n {
-        cols[to + i] = cols[to + i] + plane[at + i];
-        i += 1;
+    for i in 0..n {
+        cols[to + i] += source.read(at, i);
     }
 }
 
 // The n columns from place `to` on let out the n values from place `at` on.
-fn leave(cols: &mut [i64], to: usize, plane: &[i64], at: usize, n: usize)
-    requires { RowIn cols.old to plane.now at n }
-    ensures { Rewritten cols.old cols.new to n (left cols.old to plane.now at) }
+fn leave<S: Source + Copy>(cols: &mut [i64], to: usize, source: S, at: usize, n: usize)
+    requires { RowIn cols.old to (S.entries source) at n }
+    ensures { Rewritten cols.old cols.new to n (left cols.old to (S.entries source) at) }
 {
-    let mut i = 0;
-    while i < n {
-        cols[to + i] = cols[to + i] - plane[at + i];
-        i += 1;
+    for i in 0..n {
+        cols[to + i] -= source.read(at, i);
     }
 }
 
 // The n columns from place `to` on take in the n values from place `at` on and let out those from place `old` on.
-fn slide(cols: &mut [i64], to: usize, plane: &[i64], at: usize, old: usize, n: usize)
-    requires { RowIn cols.old to plane.now at n × RowIn cols.old to plane.now old n }
-    ensures { Rewritten cols.old cols.new to n (slid cols.old to plane.now at old) }
+fn slide<S: Source + Copy>(cols: &mut [i64], to: usize, source: S, at: usize, old: usize, n: usize)
+    requires { RowIn cols.old to (S.entries source) at n × RowIn cols.old to (S.entries source) old n }
+    ensures { Rewritten cols.old cols.new to n (slid cols.old to (S.entries source) at old) }
 {
-    let mut i = 0;
-    while i < n {
-        cols[to + i] = cols[to + i] + plane[at + i] - plane[old + i];
-        i += 1;
+    for i in 0..n {
+        cols[to + i] = cols[to + i] + source.read(at, i) - source.read(old, i);
     }
 }
 
 // The columns before the box's first row. They hold 0 before.
-pub fn begin(cols: &mut [i64], plane: &[i64], v: View, r: usize)
-    requires { Summable plane.now v r × (length cols.old ≡ kept) × ((k : ℕ) → get_or cols.old k (pos 0) ≡ pos 0) }
-    ensures { Columns cols.new (cells plane.now 0 v.w) v.w v.h r v.top }
+pub fn begin_of<S: Source + Copy>(cols: &mut [i64], source: S, v: View, r: usize)
+    requires { Readable (S.plane source) (S.wide source) (S.has_row source) v r × (length cols.old ≡ kept) × ((k : ℕ) → get_or cols.old k (pos 0) ≡ pos 0) }
+    ensures { Columns cols.new (S.plane source) v.w v.h r v.top }
 {
-    let end = cut(v.top, r, v.h);
-    let mut y = less(v.top, r + 1);
-    while y < end {
-        enter(cols, r + 1, plane, y * v.w, v.w);
-        y += 1;
+    let end = (v.top + r).min(v.h);
+    for y in v.top.saturating_sub(r + 1)..end {
+        enter(cols, r + 1, source, source.start(y), v.w);
     }
 }
 
 // The columns from before row y of the plane to before the next: a row enters unless it is below the plane, and one leaves unless it is above it.
-fn advance(cols: &mut [i64], plane: &[i64], v: View, r: usize, y: usize)
-    requires summable { Summable plane.now v r × (y < v.h) }
-    requires columns { Columns cols.old (cells plane.now 0 v.w) v.w v.h r y }
-    ensures { Columns cols.new (cells plane.now 0 v.w) v.w v.h r (y + 1) }
+pub fn advance<S: Source + Copy>(cols: &mut [i64], source: S, v: View, r: usize, y: usize)
+    requires readable { Readable (S.plane source) (S.wide source) (S.has_row source) v r × (y < v.h) }
+    requires columns { Columns cols.old (S.plane source) v.w v.h r y }
+    ensures { Columns cols.new (S.plane source) v.w v.h r (y + 1) }
 {
     if v.h <= y + r {
         if r < y {
-            leave(cols, r + 1, plane, (y - r - 1) * v.w, v.w);
+            leave(cols, r + 1, source, source.start(y - r - 1), v.w);
         }
         return;
     }
     if y <= r {
-        enter(cols, r + 1, plane, (y + r) * v.w, v.w);
+        enter(cols, r + 1, source, source.start(y + r), v.w);
         return;
     }
-    slide(cols, r + 1, plane, (y + r) * v.w, (y - r - 1) * v.w, v.w);
+    slide(
+        cols,
+        r + 1,
+        source,
+        source.start(y + r),
+        source.start(y - r - 1),
+        v.w,
+    );
+}
+
+// The columns before the box's first row, of a plane at the front of lent values. They hold 0 before.
+pub fn begin(cols: &mut [i64], plane: &[i64], v: View, r: usize)
+    requires { Summable plane.now v r × (length cols.old ≡ kept) × ((k : ℕ) → get_or cols.old k (pos 0) ≡ pos 0) }
+    ensures { Columns cols.new (cells plane.now 0 v.w) v.w v.h r v.top }
+{
+    begin_of(
+        cols,
+        Values {
+            values: plane,
+            w: v.w,
+        },
+        v,
+        r,
+    );
 }
 
 // ---- along the row
@@ -86,10 +165,8 @@ pub fn first(cols: &[i64], from: usize, end: usize) -> i64
     ensures { result ≡ range_sum (entry cols.now) from end }
 {
     let mut s: i64 = 0;
-    let mut i = from;
-    while i < end {
-        s = s + cols[i];
-        i += 1;
+    for i in from..end {
+        s += cols[i];
     }
     s
 }
@@ -109,14 +186,12 @@ fn across(
 {
     let mut s = first(cols, x, x + d);
     let mut t = first(other, x, x + d);
-    let mut i = 0;
-    while i < n {
+    for i in 0..n {
         let a = x + i;
-        s = s + (cols[a + d] - cols[a]);
-        t = t + (other[a + d] - other[a]);
+        s += cols[a + d] - cols[a];
+        t += other[a + d] - other[a];
         out[i] = s;
         second[i] = t;
-        i += 1;
     }
 }
 
@@ -140,7 +215,25 @@ pub fn next(
     ensures sums { RowSums one.new (cells plane.now 0 v.w) v.w v.h r (v.top + y) v.left v.wide
         × RowSums two.new (cells other.now 0 v.w) v.w v.h r (v.top + y) v.left v.wide }
 {
-    advance(a, plane, v, r, v.top + y);
-    advance(b, other, v, r, v.top + y);
+    advance(
+        a,
+        Values {
+            values: plane,
+            w: v.w,
+        },
+        v,
+        r,
+        v.top + y,
+    );
+    advance(
+        b,
+        Values {
+            values: other,
+            w: v.w,
+        },
+        v,
+        r,
+        v.top + y,
+    );
     across(a, b, v.left, 2 * r + 1, v.wide, one, two);
 }

@@ -3,8 +3,8 @@ use Prim.Native.Nat.{◌+◌, ◌-◌, ◌*◌, ◌<◌}
 use mathlib.Core.Path.{◌≡◌, refl}
 use native.Mathlib.Omega.{arith}
 use Rattle.planes.specs.Stage.{box_seen}
-use Rattle.sums.proofs.Strips.{spannable}
-use Rattle.sizes.proofs.Bits.{bits_small}
+use Rattle.sums.proofs.Strips.{readable_small, spannable}
+use Rattle.sizes.proofs.Bits.{readable}
 use Rattle.sizes.proofs.Rows.{still}
 use Rattle.sizes.proofs.Spanned.{counts, countable, sizes_all, sizes_same}
 use Rattle.sizes.proofs.resize.Goals as goal
@@ -14,13 +14,6 @@ use Rattle.sizes.proofs.resize.Goals.{Start}
 inside : (s : Start) → s.args.v.top + s.args.y < s.args.v.h
 inside s = omega (arith, s.requires.in_plane.0.fits.rows, s.requires.in_plane.3)
 
-pub overflow_add-at : goal.overflow_add-at
-overflow_add-at c = omega (arith, inside (goal.at.overflow_add-at c).Start, c.requires.in_plane.0.low)
-
-pub unchanged-requires : goal.unchanged-requires
-unchanged-requires c = (c.requires.in_plane.0, c.requires.in_plane.1, c.requires.in_plane.2, inside (goal.at.unchanged-requires c).Start)
-
--- nothing changes
 pub returns-then-unchanged : goal.returns-then-unchanged
 returns-then-unchanged c =
     let a = c.args in
@@ -29,16 +22,6 @@ returns-then-unchanged c =
     let e : v.top + a.y ≡ v.top + (a.y - 1) + 1 = omega (arith, c.if-y-gt0.true) in
     record { columns = next; table = c.requires.in_plane.4; sizes = sizes_same (box_seen a.b a.mask.now) c.requires.in_plane.0 e (inside (goal.at.returns-then-unchanged c).Start) c.requires.columns_2.0 next (c.requires.columns_2.1 c.if-y-gt0.true) }
 
-pub advance-requires : goal.advance-requires
-advance-requires c =
-    record { in_plane = (c.requires.in_plane.0, c.requires.in_plane.1, c.requires.in_plane.2, inside (goal.at.advance-requires c).Start); columns = c.requires.columns_2.0 }
-
-pub overflow_mul-r : goal.overflow_mul-r
-overflow_mul-r c = omega (arith, c.requires.in_plane.2)
-
-pub overflow_add-r : goal.overflow_add-r
-overflow_add-r c = omega (arith, c.requires.in_plane.2)
-
 pub size_row-requires : goal.size_row-requires
 size_row-requires c =
     let a = c.args in
@@ -46,7 +29,7 @@ size_row-requires c =
     let p = c.requires.in_plane.0 in
     let cols = c.advance.ensures in record {
       spannable = (
-        spannable (bits_small a.b a.mask.now p c.requires.in_plane.2) cols (omega arith),
+        spannable (readable_small (readable a.b a.mask.now p c.requires.in_plane.1 c.requires.in_plane.2)) cols (omega arith),
         omega (arith, c.requires.in_plane.2),
         omega (arith, c.requires.in_plane.2, p.fits.columns, p.short),
         c.requires.in_plane.5,

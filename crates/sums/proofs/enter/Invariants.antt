@@ -1,12 +1,6 @@
 -- `sums::enter` meets its contract. The loop's invariant is the contract at i columns. Assumes nothing.
-use Prim.Native.Nat.{◌≤◌, ◌-◌}
-use mathlib.Core.Path.{◌≡◌}
-use lib.ListN.{length}
 use Rattle.sums.specs.Sum.{Rewritten, entered}
 use Rattle.sums.proofs.enter.Given as goal
 
 abbrev pub invariant-loop-i : goal.invariant-loop-i
-invariant-loop-i l = (l.i ≤ l.n) × (length l.cols ≡ length l.initial.cols) × Rewritten l.initial.cols l.cols l.to l.i (entered l.initial.cols l.to l.plane l.at)
-
-abbrev pub decreases-loop-i : goal.decreases-loop-i
-decreases-loop-i l = l.n - l.i
+invariant-loop-i g l = Rewritten l.initial.cols l.cols l.to l.i (entered l.initial.cols l.to (g.S.Source.entries l.source) l.at)

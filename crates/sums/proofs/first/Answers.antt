@@ -1,35 +1,29 @@
 -- `sums::first` meets its contract. Each turn adds a column. Assumes nothing.
 use Prim.Native.Nat.{◌+◌, ◌-◌}
-use mathlib.Core.Path.{sym, ap, ◌≡◌, ◌∙◌}
+use mathlib.Core.Path.{ap, ◌≡◌, ◌∙◌}
 use native.Mathlib.Omega.{arith}
 use lib.IntN.{◌+ℤ◌}
 use mir.Syntax.{w64}
 use mir.Val.{to_z}
 use Rattle.rules.proofs.Integers.{rd}
 use Rattle.sums.specs.Sum.{column_most, entry, range_sum}
-use Rattle.sums.proofs.Runs.{range_none}
 use Rattle.sums.proofs.Turns.{Computes, span_most, adds, span_back}
 use Rattle.sums.proofs.first.Goals as goal
-use Rattle.sums.proofs.first.Goals.{After-s-1}
+use Rattle.sums.proofs.first.Goals.{In-loop-i}
 
 -- a turn adds the column i
-turn : (c : After-s-1) →
+turn : (c : In-loop-i) →
     Computes (to_z w64 c.loop-i.s-bits +ℤ rd (entry c.args.cols.now c.loop-i.i)) (range_sum (entry c.args.cols.now) c.args.from (c.loop-i.i + 1)) (span_most + column_most)
 turn c =
-    let i = c.loop-i.invariant in
-    adds c.args.cols.now c.requires.0 c.args.from c.loop-i.i (to_z w64 c.loop-i.s-bits) i.0 (omega (arith, c.requires.2, i.1)) i.2
-
-pub loop-i-init : goal.loop-i-init
-loop-i-init c = (omega arith, omega arith, ap rd (sym (range_none (entry c.args.cols.now) c.args.from c.args.from (omega arith))))
+    adds c.args.cols.now c.requires.0 c.args.from c.loop-i.i (to_z w64 c.loop-i.s-bits) (omega arith) (omega (arith, c.requires.2)) c.loop-i.invariant
 
 pub overflow_add-s : goal.overflow_add-s
-overflow_add-s c = (turn (goal.at.overflow_add-s c).After-s-1).fit
+overflow_add-s c = (turn (goal.at.overflow_add-s c).In-loop-i).fit
 
 pub loop-i-preserved : goal.loop-i-preserved
-loop-i-preserved c =
-    (omega arith, omega arith, ap rd (turn (goal.at.loop-i-preserved c).After-s-1).is)
+loop-i-preserved c = ap rd (turn (goal.at.loop-i-preserved c).In-loop-i).is
 
 pub returns : goal.returns
 returns c =
     let e : c.loop-i.i ≡ c.args.end = omega arith in
-    (rw e at c.loop-i.invariant.2) ∙ span_back c.args.cols.now c.requires.0 c.args.from (c.args.end - c.args.from) (omega (arith, c.requires.2))
+    (rw e at c.loop-i.invariant) ∙ span_back c.args.cols.now c.requires.0 c.args.from (c.args.end - c.args.from) (omega (arith, c.requires.2))
