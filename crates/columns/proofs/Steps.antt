@@ -4,14 +4,14 @@ use mathlib.Core.Bool.{cond}
 use mathlib.Core.List.{List}
 use mathlib.Core.Logic.{⊎_elim}
 use Prim.Native.Nat.{ℕ, zero, suc, ◌+◌, ◌-◌, ◌*◌, ◌≤◌, ◌<◌, min, zero-le}
-use native.Mathlib.Nat.{mul-zero, mul-one, mul-add, mul-le-mul}
+use native.Mathlib.Nat.{mul-zero, mul-one, mul-add}
 use native.Mathlib.Omega.{arith}
 use borrow.Author.Tests.{lt-ltb, le-ltb, eq-eqb, ne_eqb}
-use lib.Dec.{ltb, eqb}
+use lib.Dec.{ltb}
 use Rattle.rules.specs.Window.{Plane}
 use Rattle.rules.specs.Count.{lo, hi, crossing, tally, comparisons, samples}
-use Rattle.rules.proofs.Count.{inner, inner_is, inner_none, inner_step, samples_length, cond_le, tally_none, tally_suc, tally_cong, tally_zeros, tally_add, tally_split, tally_while}
-use Rattle.windows.specs.Span.{span, windowed}
+use Rattle.rules.proofs.Count.{inner, inner_is, inner_none, inner_step, samples_length, tally_none, tally_suc, tally_cong, tally_zeros, tally_add, tally_split, tally_while}
+use Rattle.windows.specs.Span.{span}
 use Rattle.windows.specs.Blocks.{start, stop}
 use Rattle.windows.specs.Line.{entry, Laid}
 use Rattle.columns.specs.Down.{RowIs, least_of, cell, Open, Amid, Shut, Down, Folded, Given, Closed, Taken, Rested, joins, meets, folds, row_count, window_count, down_count}
@@ -52,22 +52,21 @@ module _ (f : Plane ℕ) (n k v : ℕ) (some : 0 < k) where
 
     -- and stored
     pub stored : (store' ahead' : List ℕ) (j : ℕ) → j ≡ v - start k v → ((x : ℕ) → x < n → entry ahead' x ≡ least_of f x (start k v) v)
-        → Laid (λ x. entry row (0 + x)) store store' (j * n) n → Amid store' ahead' n k f v
+        → Laid (entry row) store store' (j * n) n → Amid store' ahead' n k f v
     stored store' ahead' j e a d =
         let low = start_le k some v in
         record {
           fore = a;
           rows = λ i x u h.
               ⊎_elim
-              (λ (o : i < j). row_kept (λ x. entry row (0 + x)) store store' n j d i x (λ z. omega arith) h ∙ t.rows i x (omega arith) h)
+              (λ (o : i < j). row_kept (entry row) store store' n j d i x (λ z. omega arith) h ∙ t.rows i x (omega arith) h)
               (λ (o : j ≤ i).
               let z : i ≡ j = omega arith in
               let y : start k v + j ≡ v = omega arith in
-              let w : 0 + x ≡ x = omega arith in
-              rw (z, laid_at (λ x. entry row (0 + x)) store (j * n) store' n x d h, w, y) (r x h))
+              rw (z, laid_at (entry row) store (j * n) store' n x d h, y) (r x h))
               (lt_or_ge i j);
           before = λ i u x ik b h.
-              row_kept (λ x. entry row (0 + x)) store store' n j d i x (λ z. omega arith) h ∙ t.before i (omega arith) x ik b h;
+              row_kept (entry row) store store' n j d i x (λ z. omega arith) h ∙ t.before i (omega arith) x ik b h;
         }
 
     -- and the least over the k rows up to it comes out
@@ -182,7 +181,7 @@ module _ (k v j : ℕ) (some : 0 < k) (e : j ≡ v - start k v) where
 -- ---- a step with a row
 module _ (row store ahead ahead' out mid store' : List ℕ) (v h n k j a b c : ℕ) (some : 0 < k) (vh : v < h) (e : j ≡ v - start k v)
     (one : (x : ℕ) → x < n → j ≡ 0 → entry ahead' x ≡ entry row x) (more : (x : ℕ) → x < n → 0 < j → entry ahead' x ≡ min (entry ahead x) (entry row x))
-    (g : Given store ahead' out v j k n b) (d : Laid (λ x. entry row (0 + x)) store mid (j * n) n) (w : Closed mid store' v h j k n c) where
+    (g : Given store ahead' out v j k n b) (d : Laid (entry row) store mid (j * n) n) (w : Closed mid store' v h j k n c) where
   fore_is : (f : Plane ℕ) → Open store ahead n k f v → RowIs row f v n → (x : ℕ) → x < n → entry ahead' x ≡ least_of f x (start k v) v
   fore_is f t r = joined f n k v some row store ahead t r ahead' j e one more
 
@@ -207,26 +206,8 @@ module _ (row store ahead ahead' out mid store' : List ℕ) (v h n k j a b c : �
             rw (q, p, ea, joins_is k v j some e, meets_is k v j some e store ahead' out n b g, folds_is k v j some e mid store' h n c vh w);
       }
 
--- ---- a step without one
+-- ---- a step without one, where the window lies in two blocks
 module _ (store ahead out : List ℕ) (a h n k : ℕ) (some : 0 < k) (ah : a < h) (ha : h ≤ a + k) where
-  -- the window is the last block's
-  pub rest_block : a ≡ start k (h - 1) → ((x : ℕ) → x < n → entry out x ≡ entry ahead x) → Rested store ahead out a h n k 0
-  rest_block e o =
-      record {
-        mins = λ f t x u. o x u ∙ rw e (t.fore x u);
-        count = rw (le-ltb a (start k (h - 1)) (omega arith)) (sym (mul-zero n));
-      }
-
-  -- or a part of it
-  pub rest_part : start k (h - 1) < a → ((x : ℕ) → x < n → entry out x ≡ cell store n (a - start k (h - 1)) x) → Rested store ahead out a h n k 0
-  rest_part l o =
-      let z : start k (h - 1) + (a - start k (h - 1)) ≡ a = omega arith in
-      record {
-        mins = λ f t x u. o x u ∙ rw z at (t.aft (a - start k (h - 1)) x (omega arith) u);
-        count = rw (le-ltb a (start k (h - 1)) (omega arith)) (sym (mul-zero n));
-      }
-
-  -- or lies in two
   pub rest_two : (r : ℕ) → a < start k (h - 1) → r ≡ n → ((x : ℕ) → x < n → entry out x ≡ min (cell store n (a + k - start k (h - 1)) x) (entry ahead x))
       → Rested store ahead out a h n k r
   rest_two r l e o =
@@ -242,14 +223,6 @@ module _ (store ahead out : List ℕ) (a h n k : ℕ) (some : 0 < k) (ah : a < h
       }
 
 -- ---- any step
--- a row takes few comparisons
-pub taken_few : (n k h v a r : ℕ) → r ≡ n * (joins k v + meets k a v + folds k h v) → n ≤ 1024 → v < 1024 → r ≤ 1024 * 1025
-taken_few n k h v a r e u l =
-    let few : joins k v + meets k a v + folds k h v ≤ 1025 =
-    omega (arith, cond_le (ltb (start k v) v) 1, cond_le (ltb a (start k v)) 1, cond_le (eqb v (stop k h v)) (v - start k v))
-    in
-    rw e (mul-le-mul u few)
-
 -- the window about row v - s
 module _ (s h v b : ℕ) (some : 0 < h) (few : v < h + s) (e : b ≡ min v (h - 1)) where
   window_count_lem : window_count s h v ≡ meets (2 * s + 1) (v - 2 * s) b
@@ -265,27 +238,7 @@ module _ (s h v b : ℕ) (some : 0 < h) (few : v < h + s) (e : b ≡ min v (h - 
       rw (le-ltb v s o, crossing_is s h (v - s), x, y))
       (lt_or_ge v s)
 
-  window_is : (f : Plane ℕ) (x : ℕ) → s ≤ v → least_of f x (v - 2 * s) b ≡ windowed min (λ u. f u x) s h (v - s)
-  window_is f x o =
-      let p : lo s (v - s) ≡ v - 2 * s = omega arith in
-      let q : hi s h (v - s) ≡ b = omega arith in
-      rw (p, q)
-
 module _ (row store ahead store' ahead' out : List ℕ) (v h n s r : ℕ) (vh : v < h) (t : Taken row store ahead store' ahead' out v h n (2 * s + 1) r) where
-  pub take_state : (f : Plane ℕ) → Down store ahead n s h f v → (v < h → RowIs row f v n) → Down store' ahead' n s h f (v + 1)
-  take_state f d i =
-      record {
-        going = λ l. t.going f (d.going vh) (i vh) l;
-        shut = λ a b.
-            let z : h - 1 ≡ v = omega arith in
-            rw z (t.shut f (d.going vh) (i vh) (omega arith));
-      }
-
-  pub take_mins : (f : Plane ℕ) → Down store ahead n s h f v → (v < h → RowIs row f v n) → s ≤ v → RowIs out (λ y x. windowed min (λ u. f u x) s h y) (v - s) n
-  take_mins f d i o x u =
-      let z : v + 1 - (2 * s + 1) ≡ v - 2 * s = omega arith in
-      rw z at (t.mins f (d.going vh) (i vh) x u) ∙ window_is s h v v (omega arith) (omega arith) (omega arith) f x o
-
   pub take_count : r ≡ n * down_count s h v
   unfolding down_count row_count
   take_count =
@@ -296,12 +249,6 @@ module _ (row store ahead store' ahead' out : List ℕ) (v h n s r : ℕ) (vh : 
       rw (lt-ltb v h vh, sym same) (rw z at t.count)
 
 module _ (store ahead out : List ℕ) (v h n s r : ℕ) (some : 0 < h) (few : v < h + s) (hv : h ≤ v) (t : Rested store ahead out (v - 2 * s) h n (2 * s + 1) r) where
-  pub rest_state : (f : Plane ℕ) → Down store ahead n s h f v → Down store ahead n s h f (v + 1)
-  rest_state f d = record { going = λ l. absurd (omega arith); shut = λ a b. d.shut a hv }
-
-  pub rest_mins : (f : Plane ℕ) → Down store ahead n s h f v → s ≤ v → RowIs out (λ y x. windowed min (λ u. f u x) s h y) (v - s) n
-  rest_mins f d o x u = t.mins f (d.shut some hv) x u ∙ window_is s h v (h - 1) some few (omega arith) f x o
-
   pub rest_count : r ≡ n * down_count s h v
   unfolding down_count
   rest_count =

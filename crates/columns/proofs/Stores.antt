@@ -1,12 +1,16 @@
 -- Laws of a store's rows, which have n entries: one written, and all folded from the last back. Assumes nothing.
 use mathlib.Core.Path.{◌≡◌, refl, sym, ◌∙◌}
-use mathlib.Core.List.{List}
+use mathlib.Core.List.{List, ◌++◌}
 use mathlib.Core.Logic.{⊎_elim}
-use Prim.Native.Nat.{ℕ, suc, ◌+◌, ◌-◌, ◌*◌, ◌≤◌, ◌<◌, min}
+use Prim.Native.Nat.{ℕ, suc, ◌+◌, ◌-◌, ◌*◌, ◌≤◌, ◌<◌, min, zero-le}
 use native.Mathlib.Nat.{mul-le-mul_right, suc-mul}
 use native.Mathlib.Omega.{arith}
+use lib.ListN.{length, take, drop}
+use borrow.Rule.Slice.PartMut.{put_mid}
+use Rattle.std.proofs.Common.{rules}
+use Rattle.std.proofs.lemmas.List.{places}
 use Rattle.windows.specs.Span.{span}
-use Rattle.windows.specs.Line.{entry, Laid}
+use Rattle.windows.specs.Line.{entry, Written, Laid}
 use Rattle.columns.specs.Down.{cell, Folded}
 use Rattle.windows.proofs.Spans.{span_one, span_front}
 use Rattle.windows.proofs.Cuts.{lt_or_ge}
@@ -53,3 +57,34 @@ module _ (l : List ℕ) (n last : ℕ) where
             (lt_or_ge j i);
         rest = λ j h. d.rest j (λ a b. h a (omega arith)) ∙ t.rest j (λ a b. h (omega arith) b);
       }
+
+-- a row is copied to a
+pub laid_copy : (m row w : List ℕ) (a k n : ℕ) → w ≡ take n row → k ≡ n → a + n ≤ length m → n ≤ length row → Laid (entry row) m (put_mid a k m w) a n
+laid_copy m row w a k n ew kn am rn =
+    record {
+      is = λ i x y. rw ew (search (rules, places));
+      rest = λ i h.
+          ⊎_elim
+          (λ (o : i < a). search (rules, places))
+          (λ (o : a ≤ i). ⊎_elim (λ (u : i < a + n). absurd (h o u)) (λ (u : a + n ≤ i). rw ew (search (rules, places))) (lt_or_ge i (a + n)))
+          (lt_or_ge i a);
+    }
+
+-- the row at a, the last of `front`, becomes the lesser of it and the next, the first of `back`
+pub laid_lesser : (m front back row new : List ℕ) (a b k n : ℕ) → b ≡ a + n → b + n ≤ length m → front ≡ take b m → back ≡ drop b m → k ≡ length front - a
+    → row ≡ take k (drop a front) → length new ≡ n → Written (λ x. min (entry row x) (entry (take n back) x)) row new 0 n
+    → Laid (λ x. min (entry m (a + x)) (entry m (a + n + x))) m (put_mid a k front new ++ back) a n
+laid_lesser m front back row new a b k n eb bn ef ek kk er en d =
+    let long : length front ≡ b = rw ef (search (rules, places)) in
+    record {
+      is = λ i x y.
+          let p : entry (put_mid a k front new ++ back) i ≡ entry new (i - a) = search (rules, places) in
+          let q : entry row (i - a) ≡ entry m (a + (i - a)) = rw (er, ef) (search (rules, places)) in
+          let r : entry (take n back) (i - a) ≡ entry m (a + n + (i - a)) = rw (ek, eb) (search (rules, places)) in
+          p ∙ (d.is (i - a) zero-le (omega arith) ∙ rw (q, r));
+      rest = λ i h.
+          ⊎_elim
+          (λ (o : i < a). rw (ef, ek) (search (rules, places)))
+          (λ (o : a ≤ i). ⊎_elim (λ (u : i < a + n). absurd (h o u)) (λ (u : a + n ≤ i). rw (ef, ek) (search (rules, places))) (lt_or_ge i (a + n)))
+          (lt_or_ge i a);
+    }

@@ -4,66 +4,33 @@
 ghost use Rattle.std.specs.Prelude.{◌≡◌, ℕ, ◌+◌, ◌-◌, ◌*◌, ◌≤◌, ◌<◌, min, length};
 ghost use Rattle.rules.specs.Window.{Plane};
 ghost use Rattle.windows.specs.Span.{windowed};
-ghost use Rattle.windows.specs.Line.{entry, Written, Laid};
+ghost use Rattle.windows.specs.Line.{entry, Written};
 ghost use Rattle.columns.specs.Down.{RowIs, Down, Folded, Given, Closed, Taken, Rested, down_count};
 
-use numbers::{less, lesser_u16};
 use windows::last_block;
 
-// n entries of `row` from `at` on, to `to` on.
-fn copy(out: &mut [u16], to: usize, row: &[u16], at: usize, n: usize)
-    requires { (to + n ≤ length out.old) × (at + n ≤ length row.now) }
-    ensures { Laid (λ x. entry row.now (at + x)) out.old out.new to n }
-{
-    let mut x = 0;
-    while x < n {
-        out[to + x] = row[at + x];
-        x += 1;
-    }
-}
-
 // Each entry becomes the lesser of it and the row's. Returns the number of comparisons.
-fn extend(ahead: &mut [u16], row: &[u16], n: usize) -> usize
-    requires { (n ≤ length ahead.old) × (n ≤ length row.now) }
-    ensures { (result ≡ n) × Written (λ x. min (entry ahead.old x) (entry row.now x)) ahead.old ahead.new 0 n }
+fn extend(least: &mut [u16], row: &[u16]) -> usize
+    requires { length least.old ≡ length row.now }
+    ensures { (result ≡ length row.now) × Written (λ x. min (entry least.old x) (entry row.now x)) least.old least.new 0 (length row.now) }
 {
     let mut count = 0;
-    let mut x = 0;
-    while x < n {
-        ahead[x] = lesser_u16(ahead[x], row[x]);
+    for x in 0..row.len() {
+        least[x] = least[x].min(row[x]);
         count += 1;
-        x += 1;
     }
     count
 }
 
-// Entry by entry, the lesser of the store's from `at` on and of `ahead`. Returns the number of comparisons.
-fn both(out: &mut [u16], store: &[u16], at: usize, ahead: &[u16], n: usize) -> usize
-    requires { (n ≤ length out.old) × (at + n ≤ length store.now) × (n ≤ length ahead.now) }
-    ensures { (result ≡ n) × Written (λ x. min (entry store.now (at + x)) (entry ahead.now x)) out.old out.new 0 n }
+// Entry by entry, the lesser of two rows. Returns the number of comparisons. To copy one and then `extend` it would go over the row twice.
+fn both(out: &mut [u16], row: &[u16], other: &[u16]) -> usize
+    requires { (length out.old ≡ length row.now) × (length other.now ≡ length row.now) }
+    ensures { (result ≡ length row.now) × Written (λ x. min (entry row.now x) (entry other.now x)) out.old out.new 0 (length row.now) }
 {
     let mut count = 0;
-    let mut x = 0;
-    while x < n {
-        out[x] = lesser_u16(store[at + x], ahead[x]);
+    for x in 0..row.len() {
+        out[x] = row[x].min(other[x]);
         count += 1;
-        x += 1;
-    }
-    count
-}
-
-// The row at `to` becomes, entry by entry, the lesser of it and of the next row. Returns the number of comparisons.
-fn fold_row(store: &mut [u16], to: usize, n: usize) -> usize
-    requires { to + n + n ≤ length store.old }
-    ensures { (result ≡ n) × Laid (λ x. min (entry store.old (to + x)) (entry store.old (to + n + x))) store.old store.new to n }
-{
-    let next = to + n;
-    let mut count = 0;
-    let mut x = 0;
-    while x < n {
-        store[to + x] = lesser_u16(store[to + x], store[next + x]);
-        count += 1;
-        x += 1;
     }
     count
 }
@@ -74,10 +41,9 @@ fn fold(store: &mut [u16], last: usize, n: usize) -> usize
     ensures { (result ≡ n * last) × Folded store.old store.new n 0 last }
 {
     let mut count = 0;
-    let mut j = last;
-    while 0 < j {
-        j -= 1;
-        count += fold_row(store, j * n, n);
+    for j in (0..last).rev() {
+        let (rows, next) = store.split_at_mut((j + 1) * n);
+        count += extend(&mut rows[j * n..], &next[..n]);
     }
     count
 }
@@ -89,10 +55,10 @@ fn join(ahead: &mut [u16], row: &[u16], n: usize, j: usize) -> usize
         × ((x : ℕ) → x < n → 0 < j → entry ahead.new x ≡ min (entry ahead.old x) (entry row.now x)) }
 {
     if j == 0 {
-        copy(ahead, 0, row, 0, n);
+        ahead[..n].copy_from_slice(&row[..n]);
         return 0;
     }
-    extend(ahead, row, n)
+    extend(&mut ahead[..n], &row[..n])
 }
 
 // The least over the k rows up to row v, j-th of its block, or over all where they are fewer. Returns the number of comparisons.
@@ -109,14 +75,15 @@ fn give(
     ensures { Given store.now ahead.now out.new v j k n result }
 {
     if v < k {
-        copy(out, 0, ahead, 0, n);
+        out[..n].copy_from_slice(&ahead[..n]);
         return 0;
     }
     if j + 1 == k {
-        copy(out, 0, ahead, 0, n);
+        out[..n].copy_from_slice(&ahead[..n]);
         return 0;
     }
-    both(out, store, (j + 1) * n, ahead, n)
+    let next = (j + 1) * n;
+    both(&mut out[..n], &store[next..next + n], &ahead[..n])
 }
 
 // The block's rows are folded where row v, the j-th, is its last. Returns the number of comparisons.
@@ -152,7 +119,7 @@ fn take(
     let j = v % k;
     let a = join(ahead, row, n, j);
     let b = give(v, j, k, n, store, ahead, out);
-    copy(store, j * n, row, 0, n);
+    store[j * n..j * n + n].copy_from_slice(&row[..n]);
     let c = close(v, h, j, k, n, store);
     a + b + c
 }
@@ -172,14 +139,16 @@ fn rest(
 {
     let c = last_block(h, k);
     if a == c {
-        copy(out, 0, ahead, 0, n);
+        out[..n].copy_from_slice(&ahead[..n]);
         return 0;
     }
     if c < a {
-        copy(out, 0, store, (a - c) * n, n);
+        let at = (a - c) * n;
+        out[..n].copy_from_slice(&store[at..at + n]);
         return 0;
     }
-    both(out, store, (a + k - c) * n, ahead, n)
+    let at = (a + k - c) * n;
+    both(&mut out[..n], &store[at..at + n], &ahead[..n])
 }
 
 // Step v of h + s: row v of h goes down the n columns while there is one, and from step s on the least over the columns' windows of radius s about row
@@ -206,5 +175,5 @@ pub fn down(
     if v < h {
         return take(row, v, h, n, k, store, ahead, out);
     }
-    rest(less(v, 2 * s), h, n, k, store, ahead, out)
+    rest(v.saturating_sub(2 * s), h, n, k, store, ahead, out)
 }

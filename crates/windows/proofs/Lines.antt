@@ -5,7 +5,6 @@ use mathlib.Core.Logic.{⊎_elim}
 use Prim.Native.Nat.{ℕ, suc, ◌+◌, ◌-◌, ◌*◌, ◌≤◌, ◌<◌, min}
 use native.Mathlib.Nat.{add-zero}
 use native.Mathlib.Omega.{arith}
-use native.Mathlib.Numerals.{add-one}
 use lib.ListN.{length, set}
 use lib.Seq.{get_or-set_same, get_or-set_other}
 use Rattle.rules.specs.Count.{in_blocks, samples}
@@ -65,95 +64,49 @@ written_as F G l m a b d e = record { is = λ i x y. d.is i x y ∙ e i x y; res
 
 -- ---- a run of n entries at `to`
 module _ (G : ℕ → ℕ) (l : List ℕ) (to : ℕ) where
-  pub laid_none : Laid G l l to 0
-  laid_none = rw add-zero (written_none (λ i. G (i - to)) l to)
-
-  pub laid_more : (m : List ℕ) (x v : ℕ) → Laid G l m to x → to + x < length m → v ≡ G x → Laid G l (set m (to + x) v) to (x + 1)
-  laid_more m x v d h e =
-      let y : to + x - to ≡ x = omega arith in
-      let z : to + (x + 1) ≡ to + x + 1 = omega arith in
-      rw z (written_more (λ i. G (i - to)) l m to (to + x) v d (omega arith) h (rw y e))
-
   pub laid_at : (m : List ℕ) (n x : ℕ) → Laid G l m to n → x < n → entry m (to + x) ≡ G x
   laid_at m n x d h =
       let y : to + x - to ≡ x = omega arith in
       rw y at (d.is (to + x) (omega arith) (omega arith))
 
--- a copy at 0
-pub copied : (row l m : List ℕ) (at n : ℕ) → Laid (λ x. entry row (at + x)) l m 0 n → (x : ℕ) → x < n → entry m x ≡ entry row (at + x)
-copied row l m at n d x h = let z : 0 + x ≡ x = omega arith in rw z at (laid_at (λ x. entry row (at + x)) l 0 m n x d h)
-
-pub copied_all : (row l m : List ℕ) (n : ℕ) → Laid (λ x. entry row (0 + x)) l m 0 n → (x : ℕ) → x < n → entry m x ≡ entry row x
-copied_all row l m n d x h = let z : 0 + x ≡ x = omega arith in rw z at (copied row l m 0 n d x h)
-
--- ---- one block
--- m is the least from a to i, and so is written up to it
-pub record AheadTo (line l p : List ℕ) (a i m : ℕ) : Type 0 where
-  pub low : a ≤ i
-  pub size : length p ≡ length l
-  pub least : m ≡ span min (entry line) a i
-  pub small : m ≤ 65535
-  pub mins : Written (span min (entry line) a) l p (a + 1) (i + 1)
-
+-- ---- the least from a on, up to each sample of a stretch
 module _ (line l : List ℕ) (a : ℕ) where
-  pub ahead_first : (m : ℕ) → m ≡ entry line a → m ≤ 65535 → AheadTo line l l a a m
-  ahead_first m e u = record { low = omega arith; size = refl; least = e ∙ sym (span_one min (entry line) a); small = u; mins = written_none _ l (a + 1) }
+  pub ahead_first : (m : ℕ) → a < length l → m ≡ entry line a
+      → (m ≡ span min (entry line) a (a + 0)) × Written (span min (entry line) a) l (set l a (entry line a)) a (a + 1)
+  ahead_first m h e =
+      let one = span_one min (entry line) a in
+      (rw add-zero (e ∙ sym one), written_one _ l a _ h (sym one))
 
-  pub ahead_more : (p : List ℕ) (i m v w : ℕ) → AheadTo line l p a i m → w ≡ entry line (i + 1) → v ≡ min m w → i + 1 < length p → length (set p (i + 1) v) ≡ length p
-      → AheadTo line l (set p (i + 1) v) a (i + 1) v
-  ahead_more p i m v w t ew ev h z =
-      let more : span min (entry line) a (i + 1) ≡ min (span min (entry line) a i) (entry line (i + 1)) = rw (add-one i) (span_more min (entry line) a i t.low) in
-      let e : v ≡ span min (entry line) a (i + 1) = omega (arith, t.least) in
-      record {
-        low = omega (arith, t.low);
-        size = z ∙ t.size;
-        least = e;
-        small = omega (arith, t.small);
-        mins = written_more _ l p (a + 1) (i + 1) v t.mins (omega (arith, t.low)) h e;
-      }
+  -- a turn, with k samples before it after the first
+  pub ahead_more : (p : List ℕ) (k i m v : ℕ) → k + a + 1 ≡ i → i < length p → m ≡ span min (entry line) a (a + k) → v ≡ min m (entry line i)
+      → Written (span min (entry line) a) l p a i
+      → (v ≡ span min (entry line) a (a + (k + 1))) × Written (span min (entry line) a) l (set p i v) a (i + 1)
+  ahead_more p k i m v at h least ev d =
+      let next : suc (a + k) ≡ i = omega arith in
+      let more : span min (entry line) a i ≡ min (span min (entry line) a (a + k)) (entry line i) = rw next at (span_more min (entry line) a (a + k) (omega arith)) in
+      let e : v ≡ span min (entry line) a i = omega arith in
+      let z : a + (k + 1) ≡ i = omega arith in
+      (rw z e, written_more _ l p a i v d (omega arith) h e)
 
-  -- up to the last
-  pub ahead_done : (p : List ℕ) (b i m v : ℕ) → a < length l → v ≡ entry line a → AheadTo line (set l a v) p a i m → i ≡ b
-      → Written (span min (entry line) a) l p a (b + 1)
-  ahead_done p b i m v h e t z =
-      let first = written_one (span min (entry line) a) l a v h (e ∙ sym (span_one min (entry line) a)) in
-      rw z at (written_on _ l (set l a v) p a (a + 1) (i + 1) first t.mins (omega arith) (omega (arith, t.low)))
+-- ---- the least up to b, from each sample of a stretch
+module _ (line l : List ℕ) (b end : ℕ) (last : b + 1 ≡ end) where
+  pub behind_first : (m : ℕ) → b < length l → m ≡ entry line b
+      → (m ≡ span min (entry line) b b) × Written (λ j. span min (entry line) j b) l (set l b (entry line b)) b end
+  behind_first m h e =
+      let one = span_one min (entry line) b in
+      (e ∙ sym one, rw (← last) (written_one (λ j. span min (entry line) j b) l b _ h (sym one)))
 
--- m is the least from i to b, and so is written from it on
-pub record BehindTo (line l q : List ℕ) (b i m : ℕ) : Type 0 where
-  pub high : i ≤ b
-  pub size : length q ≡ length l
-  pub least : m ≡ span min (entry line) i b
-  pub small : m ≤ 65535
-  pub mins : Written (λ j. span min (entry line) j b) l q i b
-
-module _ (line l : List ℕ) (b : ℕ) where
-  pub behind_first : (m : ℕ) → m ≡ entry line b → m ≤ 65535 → BehindTo line l l b b m
-  behind_first m e u = record { high = omega arith; size = refl; least = e ∙ sym (span_one min (entry line) b); small = u; mins = written_none _ l b }
-
-  pub behind_more : (q : List ℕ) (i m v w : ℕ) → BehindTo line l q b i m → 0 < i → w ≡ entry line (i - 1) → v ≡ min m w → i - 1 < length q → length (set q (i - 1) v) ≡ length q
-      → BehindTo line l (set q (i - 1) v) b (i - 1) v
-  behind_more q i m v w t some ew ev h z =
+  pub behind_more : (q : List ℕ) (i m v : ℕ) → 0 < i → i ≤ b → i - 1 < length q → m ≡ span min (entry line) i b → v ≡ min m (entry line (i - 1))
+      → Written (λ j. span min (entry line) j b) l q i end
+      → (v ≡ span min (entry line) (i - 1) b) × Written (λ j. span min (entry line) j b) l (set q (i - 1) v) (i - 1) end
+  behind_more q i m v some ib h least ev d =
       let next : suc (i - 1) ≡ i = omega arith in
       let more : span min (entry line) (i - 1) b ≡ min (entry line (i - 1)) (span min (entry line) i b) =
-      rw (span_front min min_assoc (entry line) (i - 1) b (omega (arith, t.high)), next)
+      rw (span_front min min_assoc (entry line) (i - 1) b (omega arith), next)
       in
-      let e : v ≡ span min (entry line) (i - 1) b = omega (arith, t.least) in
+      let e : v ≡ span min (entry line) (i - 1) b = omega arith in
       let one : i - 1 + 1 ≡ i = omega arith in
-      record {
-        high = omega (arith, t.high);
-        size = z ∙ t.size;
-        least = e;
-        small = omega (arith, t.small);
-        mins = written_back _ l q _ (i - 1) i b t.mins (rw one at (written_one (λ j. span min (entry line) j b) q (i - 1) v h e)) (omega arith) t.high;
-      }
-
-  -- down to the first
-  pub behind_done : (q : List ℕ) (a i m v : ℕ) → b < length l → v ≡ entry line b → BehindTo line (set l b v) q b i m → i ≡ a
-      → Written (λ j. span min (entry line) j b) l q a (b + 1)
-  behind_done q a i m v h e t z =
-      let last = written_one (λ j. span min (entry line) j b) l b v h (e ∙ sym (span_one min (entry line) b)) in
-      rw z at (written_back _ l (set l b v) q i b (b + 1) last t.mins t.high (omega arith))
+      (e, written_back _ l q _ (i - 1) i end d (rw one at (written_one (λ j. span min (entry line) j b) q (i - 1) v h e)) (omega arith) (omega arith))
 
 -- ---- all blocks
 pub record HalvesTo (line p q : List ℕ) (n k first : ℕ) : Type 0 where
@@ -165,10 +118,10 @@ module _ (line : List ℕ) (n k : ℕ) (some : 0 < k) where
   pub halves_none : (p q : List ℕ) → HalvesTo line p q n k 0
   halves_none p q = record { begin = start_zero k some; fores = λ i h u. absurd (omega arith); afts = λ i h u. absurd (omega arith) }
 
-  pub halves_more : (p u q v : List ℕ) (first last : ℕ) → HalvesTo line p q n k first → first < n → last ≡ min (first + k) n - 1
-      → Written (span min (entry line) first) p u first (last + 1) → Written (λ i. span min (entry line) i last) q v first (last + 1)
+  pub halves_more : (p u q v : List ℕ) (first end : ℕ) → HalvesTo line p q n k first → first < n → end ≡ min (first + k) n
+      → Written (span min (entry line) first) p u first end → Written (λ i. span min (entry line) i (end - 1)) q v first end
       → HalvesTo line u v n k (first + k)
-  halves_more p u q v first last t f e a b =
+  halves_more p u q v first end t f e a b =
       record {
         begin = start_next k some first t.begin;
         fores = λ i h y.
@@ -181,15 +134,15 @@ module _ (line : List ℕ) (n k : ℕ) (some : 0 < k) where
             (λ (o : i < first). b.rest i (λ x z. omega arith) ∙ t.afts i h o)
             (λ (o : first ≤ i).
             let s : start k i ≡ first = start_same k some first i t.begin o y in
-            let z : stop k n i ≡ last = omega arith in
+            let z : stop k n i ≡ end - 1 = omega arith in
             rw z (b.is i o (omega arith)))
             (lt_or_ge i first);
       }
 
 -- ---- what the blocks take
 -- a block's comparisons one way
-block_joins : (k n first last : ℕ) → 0 < k → first < n → last ≡ min (first + k) n - 1 → last - first ≡ min k (n - first) - 1
-block_joins k n first last some l e = omega arith
+block_joins : (k n first end : ℕ) → 0 < k → first < n → end ≡ min (first + k) n → end - 1 - first ≡ min k (n - first) - 1
+block_joins k n first end some l e = omega arith
 
 left_over : (first n : ℕ) → first < n → 0 < n - first
 left_over first n l = omega arith
@@ -197,11 +150,11 @@ left_over first n l = omega arith
 sum_up : (count x y z d r₁ r₂ : ℕ) → r₁ ≡ d → r₂ ≡ d → x ≡ 2 * d + y → count + x ≡ z → count + r₁ + r₂ + y ≡ z
 sum_up count x y z d r₁ r₂ e₁ e₂ e t = omega arith
 
-pub count_more : (k n first last count r₁ r₂ : ℕ) → 0 < k → first < n → last ≡ min (first + k) n - 1 → r₁ ≡ last - first → r₂ ≡ last - first
+pub count_more : (k n first end count r₁ r₂ : ℕ) → 0 < k → first < n → end ≡ min (first + k) n → r₁ ≡ end - 1 - first → r₂ ≡ end - 1 - first
     → count + inner k (n - first) ≡ inner k n → count + r₁ + r₂ + inner k (n - (first + k)) ≡ inner k n
-count_more k n first last count r₁ r₂ some l e e₁ e₂ t =
+count_more k n first end count r₁ r₂ some l e e₁ e₂ t =
     let z : n - first - k ≡ n - (first + k) = omega arith in
-    let b = block_joins k n first last some l e in
+    let b = block_joins k n first end some l e in
     sum_up count _ _ _ (min k (n - first) - 1) r₁ r₂ (e₁ ∙ b) (e₂ ∙ b) (rw z at (inner_step k (n - first) some (left_over first n l))) t
 
 pub count_done : (k n first count : ℕ) → n ≤ first → count + inner k (n - first) ≡ inner k n → count ≡ in_blocks k (samples n)

@@ -43,10 +43,10 @@ cut_first : (n s i : ℕ) → lo s i ≡ 0 → start (2 * s + 1) (hi s n i) ≡ 
 cut_first n s i h = start_same (2 * s + 1) (omega arith) 0 (hi s n i) (start_zero (2 * s + 1) (omega arith)) zero-le (omega arith)
 
 pub cut_more : (l p q : List ℕ) (n s : ℕ) (m : List ℕ) (from i a b c count v r : ℕ) → Met l m p q n s from i count → from ≤ i → i < length m
-    → (s ≤ i → n ≤ i + s) → a ≡ lo s i → b ≡ hi s n i → c ≡ start (2 * s + 1) (n - 1)
+    → (s ≤ i → n ≤ i + s)
     → ((d : ℕ) → (0 < a → d ≡ c) → (a ≡ 0 → d ≡ 0) → (v ≡ choose min a d (entry q a) (entry p b)) × (r ≡ cond (ltb a d) 1 0))
-    → Met l (set m i v) p q n s from (i + 1) (count + r)
-cut_more l p q n s m from i a b c count v r t fi h full ea eb ec pick =
+    → a ≡ lo s i → b ≡ hi s n i → c ≡ start (2 * s + 1) (n - 1) → Met l (set m i v) p q n s from (i + 1) (count + r)
+cut_more l p q n s m from i a b c count v r t fi h full pick ea eb ec =
     let last : 0 < a → start (2 * s + 1) (hi s n i) ≡ c = λ o. cut_last n s i full (omega arith) ∙ sym ec in
     let first : a ≡ 0 → start (2 * s + 1) (hi s n i) ≡ 0 = λ o. cut_first n s i (omega arith) in
     let picked = pick (start (2 * s + 1) (hi s n i)) last first in
@@ -95,7 +95,10 @@ module _ (l p q : List ℕ) (s m : ℕ) where
       let z : min 0 m + s ≡ s = omega arith in
       record { size = refl; begin = start_zero (2 * s + 1) (omega arith); met_to = rw z (met_none l p q (m + 2 * s) s s) }
 
-  pub whole_more : (u v : List ℕ) (a count some r : ℕ) → WholeTo l u p q s m a count → a < m → m + 2 * s ≤ length u → some ≡ min (2 * s) (m - a - 1)
+  pub whole_done : (u : List ℕ) (a r : ℕ) → m ≤ a → WholeTo l u p q s m a r → Met l u p q (m + 2 * s) s s (m + s) r
+  whole_done u a r h t = let z : min a m + s ≡ m + s = omega arith in rw z at t.met_to
+
+  pub whole_more : (u v : List ℕ) (a count some r : ℕ) → WholeTo l u p q s m a count → a < m → m + 2 * s ≤ length u → some ≡ min (m - a - 1) (2 * s)
       → length v ≡ length u → r ≡ count + some
       → Written (λ i. min (entry q (i - s)) (entry p (i + s))) (set u (a + s) (entry p (a + 2 * s))) v (a + 1 + s) (a + 1 + s + some)
       → WholeTo l v p q s m (a + (2 * s + 1)) r

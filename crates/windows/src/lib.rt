@@ -7,8 +7,6 @@ ghost use Rattle.windows.specs.Span.{span, windowed};
 ghost use Rattle.windows.specs.Blocks.{start, choose};
 ghost use Rattle.windows.specs.Line.{entry, Written, fore, aft, Met};
 
-use numbers::{cut, less, lesser_u16, lesser_u32, lesser_usize};
-
 // A least, and how many comparisons it took.
 #[derive(Clone, Copy)]
 struct Least {
@@ -26,59 +24,39 @@ fn untouched(x: u16) -> Least
     }
 }
 
-// A sample for a running least, which is kept in 32 bits: it is quicker.
-fn wide(x: u16) -> u32
-    ensures { (result ≡ x) × (result ≤ 65535) }
+// Entry i of p becomes the least of the samples `first` to i, for each i before `end`. Returns the number of comparisons.
+fn ahead(line: &[u16], first: usize, end: usize, p: &mut [u16]) -> usize
+    requires { (first < end) × (end ≤ length line.now) × (end ≤ length p.old) }
+    ensures { (result ≡ end - 1 - first) × Written (span min (entry line.now) first) p.old p.new first end }
 {
-    x as u32
-}
-
-// Entry i of p becomes the least of the samples `first` to i, for each i up to `last`. Returns the number of comparisons.
-fn ahead(line: &[u16], first: usize, last: usize, p: &mut [u16]) -> usize
-    requires { (first ≤ last) × (last < length line.now) × (last < length p.old) }
-    ensures { (result ≡ last - first) × Written (span min (entry line.now) first) p.old p.new first (last + 1) }
-{
-    let mut m = wide(line[first]);
-    p[first] = m as u16;
+    // In 32 bits a running least is quicker.
+    let mut least = u32::from(line[first]);
+    p[first] = line[first];
     let mut count = 0;
-    let mut i = first;
-    while i < last {
-        i += 1;
-        m = lesser_u32(m, wide(line[i]));
+    for i in first + 1..end {
+        least = least.min(u32::from(line[i]));
         count += 1;
-        p[i] = m as u16;
+        p[i] = least as u16;
     }
     count
 }
 
-// Entry i of q becomes the least of the samples i to `last`, for each i from `first` on. Returns the number of comparisons.
-fn behind(line: &[u16], first: usize, last: usize, q: &mut [u16]) -> usize
-    requires { (first ≤ last) × (last < length line.now) × (last < length q.old) }
-    ensures { (result ≡ last - first) × Written (λ i. span min (entry line.now) i last) q.old q.new first (last + 1) }
+// Entry i of q becomes the least of the samples from i to before `end`, for each i from `first` on. Returns the number of comparisons.
+// It is not one function with `ahead`: a loop that takes its order from outside is no plainer.
+fn behind(line: &[u16], first: usize, end: usize, q: &mut [u16]) -> usize
+    requires { (first < end) × (end ≤ length line.now) × (end ≤ length q.old) }
+    ensures { (result ≡ end - 1 - first) × Written (λ i. span min (entry line.now) i (end - 1)) q.old q.new first end }
 {
-    let mut m = wide(line[last]);
-    q[last] = m as u16;
+    let last = end - 1;
+    let mut least = u32::from(line[last]);
+    q[last] = line[last];
     let mut count = 0;
-    let mut i = last;
-    while first < i {
-        i -= 1;
-        m = lesser_u32(m, wide(line[i]));
+    for i in (first..last).rev() {
+        least = least.min(u32::from(line[i]));
         count += 1;
-        q[i] = m as u16;
+        q[i] = least as u16;
     }
     count
-}
-
-// The last sample of the block of k that starts at `first`, on a line of n.
-fn last_of(first: usize, k: usize, n: usize) -> usize
-    requires { (first < n) × (0 < k) }
-    ensures { result ≡ min (first + k) n - 1 }
-{
-    if n - first <= k {
-        n - 1
-    } else {
-        first + (k - 1)
-    }
 }
 
 // The minima of a line's blocks of k: in p from the block's start to each sample, in q from each sample to the block's end.
@@ -89,12 +67,10 @@ fn halves(line: &[u16], n: usize, k: usize, p: &mut [u16], q: &mut [u16]) -> usi
         × ((i : ℕ) → i < n → entry q.new i ≡ aft line.now k n i) }
 {
     let mut count = 0;
-    let mut first = 0;
-    while first < n {
-        let last = last_of(first, k, n);
-        count += ahead(line, first, last, p);
-        count += behind(line, first, last, q);
-        first += k;
+    for first in (0..n).step_by(k) {
+        let end = (first + k).min(n);
+        count += ahead(line, first, end, p);
+        count += behind(line, first, end, q);
     }
     count
 }
@@ -104,7 +80,7 @@ fn high(i: usize, s: usize, n: usize) -> usize
     requires { i < n }
     ensures { result ≡ hi s n i }
 {
-    cut(i, s, n - 1)
+    i.saturating_add(s).min(n - 1)
 }
 
 // The start of the last block of k, on a line of n.
@@ -120,17 +96,14 @@ pub fn last_block(n: usize, k: usize) -> usize
 fn pick(x: u16, y: u16, a: usize, c: usize) -> Least
     ensures { (d : ℕ) → (0 < a → d ≡ c) → (a ≡ 0 → d ≡ 0) → (result.value ≡ choose min a d x y) × (result.comparisons ≡ cond (ltb a d) 1 0) }
 {
-    if a == 0 {
-        return untouched(y);
-    }
-    if a == c {
+    if a == 0 || a == c {
         return untouched(y);
     }
     if c < a {
         return untouched(x);
     }
     Least {
-        value: lesser_u16(x, y),
+        value: x.min(y),
         comparisons: 1,
     }
 }
@@ -151,13 +124,11 @@ fn meet_cut(
 {
     let c = last_block(n, 2 * s + 1);
     let mut count = 0;
-    let mut i = from;
-    while i < end {
-        let a = less(i, s);
+    for i in from..end {
+        let a = i.saturating_sub(s);
         let least = pick(q[a], p[high(i, s, n)], a, c);
         line[i] = least.value;
         count += least.comparisons;
-        i += 1;
     }
     count
 }
@@ -168,11 +139,9 @@ fn join_run(line: &mut [u16], s: usize, a: usize, m: usize, p: &[u16], q: &[u16]
     ensures { (result ≡ m) × Written (λ i. min (entry q.now (i - s)) (entry p.now (i + s))) line.old line.new (a + s) (a + s + m) }
 {
     let mut count = 0;
-    let mut i = 0;
-    while i < m {
-        line[a + s + i] = lesser_u16(q[a + i], p[a + 2 * s + i]);
+    for i in a..a + m {
+        line[i + s] = q[i].min(p[i + 2 * s]);
         count += 1;
-        i += 1;
     }
     count
 }
@@ -183,12 +152,10 @@ fn meet_whole(line: &mut [u16], s: usize, m: usize, p: &[u16], q: &[u16]) -> usi
     ensures { Met line.old line.new p.now q.now (m + 2 * s) s s (m + s) result }
 {
     let mut count = 0;
-    let mut a = 0;
-    while a < m {
+    for a in (0..m).step_by(2 * s + 1) {
         line[a + s] = p[a + 2 * s];
-        let some = lesser_usize(2 * s, m - a - 1);
+        let some = (m - a - 1).min(2 * s);
         count += join_run(line, s, a + 1, some, p, q);
-        a += 2 * s + 1;
     }
     count
 }

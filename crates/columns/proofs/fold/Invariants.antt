@@ -1,12 +1,8 @@
 -- `columns::fold` meets its contract. The invariant: the rows from j on are folded, with n comparisons for each before the last. Assumes nothing.
 use mathlib.Core.Path.{◌≡◌}
-use Prim.Native.Nat.{◌+◌, ◌*◌, ◌≤◌}
-use lib.ListN.{length}
+use Prim.Native.Nat.{◌+◌, ◌*◌}
 use Rattle.columns.specs.Down.{Folded}
 use Rattle.columns.proofs.fold.Given as goal
 
 abbrev pub invariant-loop-j : goal.invariant-loop-j
-invariant-loop-j l = (l.j ≤ l.last) × (l.count + l.j * l.n ≡ l.last * l.n) × (length l.store ≡ length l.initial.store) × Folded l.initial.store l.store l.n l.j l.last
-
-abbrev pub decreases-loop-j : goal.decreases-loop-j
-decreases-loop-j l = l.j
+invariant-loop-j l = (l.count + l.j * l.n ≡ l.last * l.n) × Folded l.initial.store l.store l.n l.j l.last

@@ -1,12 +1,12 @@
--- `windows::behind` meets its contract. The invariant: m is the least from i to `last`, q has such minima from i on, and there was
--- a comparison for each sample before `last`. Assumes nothing.
+-- `windows::behind` meets its contract. The invariant: q has the minima up to the last sample from i on, the first of them is the least so far, and
+-- there was a comparison for each sample before the last. Assumes nothing.
 use mathlib.Core.Path.{◌≡◌}
-use Prim.Native.Nat.{◌+◌, ◌-◌, ◌≤◌}
-use Rattle.windows.proofs.Lines.{BehindTo}
+use Prim.Native.Nat.{◌+◌, ◌-◌, ◌≤◌, min}
+use Rattle.windows.specs.Span.{span}
+use Rattle.windows.specs.Line.{entry, Written}
 use Rattle.windows.proofs.behind.Given as goal
 
 abbrev pub invariant-loop-i : goal.invariant-loop-i
-invariant-loop-i l = (l.first ≤ l.i) × BehindTo l.line l.initial.q l.q l.last l.i l.m × (l.count + l.i ≡ l.last)
-
-abbrev pub decreases-loop-i : goal.decreases-loop-i
-decreases-loop-i l = l.i - l.first
+invariant-loop-i l =
+    (l.first ≤ l.i) × (l.count + l.i ≡ l.end - 1) × (l.least ≤ 65535) × (l.least ≡ span min (entry l.line) l.i (l.end - 1))
+    × Written (λ j. span min (entry l.line) j (l.end - 1)) l.fn.q l.q l.i l.end
