@@ -1,7 +1,7 @@
 -- The first pass between two rows: what its loop keeps. Assumes nothing.
 use mathlib.Core.Path.{◌≡◌, refl}
 use mathlib.Core.List.{List}
-use Prim.Native.Nat.{ℕ, ◌+◌, ◌-◌, ◌*◌, ◌≤◌}
+use Prim.Native.Nat.{ℕ, ◌-◌, ◌*◌, ◌≤◌}
 use native.Mathlib.Omega.{arith}
 use lib.ListN.{length, get_or}
 use lib.IntN.{ℤ}
@@ -16,28 +16,13 @@ use Rattle.planes.proofs.Shown.{shown_guide}
 use Rattle.columns.specs.Down.{Down}
 use Rattle.columns.proofs.Counted.{Counted}
 use Rattle.coarse.specs.Rows.{least_along, SampledTo}
-use Rattle.coarse.proofs.Planes.{sampled_none}
 use Rattle.coarse.proofs.Minima.{coarse_le}
 
 -- l is the work area as it came, m as it is before row i goes down the columns, after `count` comparisons
 pub record Going (v : View) (k : Settings) (a : Rgb) (mask frame : List ℕ) (l m : List ℤ) (row p q store ahead out : List ℕ) (count i : ℕ) : Type 0 where
-  pub most : i ≤ v.tall + k.s
-  pub long : length m ≡ length l
-  pub row_long : length row ≡ 1024
-  pub p_long : length p ≡ 1024
-  pub q_long : length q ≡ 1024
-  pub store_long : length store ≡ 62464
-  pub ahead_long : length ahead ≡ 1024
-  pub out_long : length out ≡ 1024
   pub columns : Down store ahead v.wide k.s v.tall (least_along v a k.s mask frame) i
   pub samples : SampledTo l m v.wide v.tall (sample (box_of v) k a (box_pixels v mask frame)) (i - k.s)
   pub counted : Counted k.s v.wide v.tall count i
-
--- no row is written before step s
-pub samples_start : (v : View) (k : Settings) (a : Rgb) (mask frame : List ℕ) (l : List ℤ) → SampledTo l l v.wide v.tall (sample (box_of v) k a (box_pixels v mask frame)) (0 - k.s)
-samples_start v k a mask frame l =
-    let e : 0 - k.s ≡ 0 = omega arith in
-    rw e (sampled_none v.wide v.tall (sample (box_of v) k a (box_pixels v mask frame)) l)
 
 -- after the last step all rows are
 pub samples_end : (v : View) (k : Settings) (a : Rgb) (mask frame : List ℕ) (l m : List ℤ) (n : ℕ) → n ≡ v.tall → ((i : ℕ) → get_or frame i 0 ≤ 255)

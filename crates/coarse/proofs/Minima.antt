@@ -16,9 +16,8 @@ use Rattle.planes.specs.View.{box_of, row_start}
 use Rattle.planes.specs.Stage.{masked_at, box_pixels}
 use Rattle.planes.proofs.Shown.{shown_at}
 use Rattle.windows.specs.Span.{windowed}
-use Rattle.columns.specs.Down.{RowIs, Down}
+use Rattle.columns.specs.Down.{RowIs}
 use Rattle.windows.proofs.Bridge.{bridge, windowed_cong}
-use Rattle.columns.proofs.Steps.{down_start}
 use Rattle.coarse.specs.Rows.{ratio_at, least_along, sample_of}
 
 least_le : (l : List ℕ) → least 10000 l ≤ 10000
@@ -31,10 +30,6 @@ ratio_most a i = go i.seen
     go : (b : Bool) → cond b (least_ratio a i.value) 10000 ≤ 10000
     go true = omega arith
     go false = omega arith
-
--- no row has gone down the columns
-pub columns_start : (store ahead : List ℕ) (n s h : ℕ) (f : Plane ℕ) → Down store ahead n s h f 0
-columns_start = down_start
 
 -- the least ratios l of row y, from position p of the frame on, each over its window along the row
 pub along_is : (v : View) (a : Rgb) (s : ℕ) (mask frame : List ℕ) (y p : ℕ) (l m : List ℕ) → p ≡ row_start v y

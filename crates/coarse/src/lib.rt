@@ -2,7 +2,7 @@
 // which lowers no minimum, and words of 0, which add nothing to a sum.
 #![tactic(auto)]
 
-ghost use Rattle.std.specs.Prelude.{◌≡◌, cond, not, eqb, ℕ, ◌+◌, ◌-◌, ◌*◌, ◌≤◌, ◌<◌, List, length, get_or, ℤ, pos};
+ghost use Rattle.std.specs.Prelude.{◌≡◌, ℕ, ◌+◌, ◌-◌, ◌*◌, ◌≤◌, ◌<◌, List, length, get_or, ℤ, pos};
 ghost use Rattle.rules.specs.Good.{GoodLight};
 ghost use Rattle.rules.specs.Window.{Plane, Shown};
 ghost use Rattle.rules.specs.Count.{frame_comparisons};
@@ -16,7 +16,7 @@ ghost use Rattle.coarse.specs.Rows.{Scaled, ratio_at, least_along, sample_of, Sa
 
 use columns::down;
 use pixel::{Scales, coarse_of, guide_of, least_ratio, light_scale, pixel_at};
-use planes::{View, row_start};
+use planes::{View, row_start, seen_or};
 use rules::{Rgb, Settings};
 use windows::shrink;
 
@@ -25,8 +25,7 @@ fn note(table: &mut [u32], a: u8)
     requires { (0 < a) × (length table.old ≡ 256) }
     ensures { Scaled table.new a × ((b : ℕ) → Scaled table.old b → Scaled table.new b) }
 {
-    let i = a as usize;
-    table[i] = light_scale(a);
+    table[a as usize] = light_scale(a);
 }
 
 // The scales of the three channels' lights. They go through a table, or the compiler would divide once a pixel in place of three times a call.
@@ -38,21 +37,11 @@ fn scales_of(a: Rgb) -> Scales
     note(&mut table[..], a.r);
     note(&mut table[..], a.g);
     note(&mut table[..], a.b);
-    let r = a.r as usize;
-    let g = a.g as usize;
-    let b = a.b as usize;
     Scales {
-        r: table[r],
-        g: table[g],
-        b: table[b],
+        r: table[a.r as usize],
+        g: table[a.g as usize],
+        b: table[a.b as usize],
     }
-}
-
-// A ratio, or 10,000 at a pixel that the byte m hides.
-fn ratio_by(m: u8, d: u16) -> u16
-    ensures { result ≡ cond (not (eqb m 0)) d 10000 }
-{
-    if m == 0 { 10000 } else { d }
 }
 
 // The least ratios of n pixels from position p of the frame on.
@@ -60,13 +49,9 @@ fn ratio_row(row: &mut [u16], mask: &[u8], frame: &[u8], p: usize, n: usize, a: 
     requires { (n ≤ length row.old) × (p + n ≤ length mask.now) × (3 * (p + n) ≤ length frame.now) × GoodLight a × ScaledBy a k }
     ensures { (x : ℕ) → x < n → get_or row.new x 0 ≡ ratio_at a (masked_at mask.now frame.now (p + x)) }
 {
-    let mut x = 0;
-    while x < n {
-        row[x] = ratio_by(
-            mask[p + x],
-            least_ratio(pixel_at(frame, p + x), a, k) as u16,
-        );
-        x += 1;
+    for x in 0..n {
+        let ratio = least_ratio(pixel_at(frame, p + x), a, k) as u16;
+        row[x] = seen_or(mask[p + x], ratio, 10000);
     }
 }
 
@@ -95,30 +80,16 @@ fn take_row(
     shrink(row, v.wide, s, p, q)
 }
 
-// The word of a sample that has its guide g, and above it the guide times the coarse value t.
-fn product_word(g: u64, t: u64) -> i64
-    requires { (g ≤ 765) × (t ≤ 10000) }
-    ensures { result ≡ pos (g + 16777216 * (g * t)) }
+// The word that has `low`, and `high` in units of `unit` above it.
+fn word(low: u64, unit: u64, high: u64) -> i64
+    requires { (low ≤ 10000) × (unit ≤ 268435456) × (high ≤ 7650000) }
+    ensures { result ≡ pos (low + unit * high) }
 {
-    (g + 16777216 * (g * t)) as i64
+    (low + unit * high) as i64
 }
 
-// The word that has its coarse value, and above it the guide squared.
-fn square_word(g: u64, t: u64) -> i64
-    requires { (g ≤ 765) × (t ≤ 10000) }
-    ensures { result ≡ pos (t + 268435456 * (g * g)) }
-{
-    (t + 268435456 * (g * g)) as i64
-}
-
-// A word of a sample, or 0 at a pixel that the byte m hides.
-fn word_by(m: u8, word: i64) -> i64
-    ensures { result ≡ cond (not (eqb m 0)) word (pos 0) }
-{
-    if m == 0 { 0 } else { word }
-}
-
-// The samples of n pixels from position p of the frame on, from the least ratios d of their windows: one word of each from `to` on, the other from `two` on.
+// The samples of n pixels from position p of the frame on, from the least ratios d of their windows: from `to` on the word of each that has its guide g, and
+// above it g times the coarse value t, and from `two` on the word that has t, and above it g squared.
 fn sample_row(
     work: &mut [i64],
     to: usize,
@@ -134,13 +105,14 @@ fn sample_row(
         × ((x : ℕ) → x < n → get_or d.now x 0 ≤ 10000) }
     ensures { SamplesPut work.old work.new to two (λ x. sample_of omega (masked_at mask.now frame.now (p + x)) (get_or d.now x 0)) n }
 {
-    let mut x = 0;
-    while x < n {
+    for x in 0..n {
+        let m = mask[p + x];
         let g = guide_of(pixel_at(frame, p + x));
         let t = coarse_of(omega, d[x] as u64);
-        work[to + x] = word_by(mask[p + x], product_word(g, t));
-        work[two + x] = word_by(mask[p + x], square_word(g, t));
-        x += 1;
+        let product = word(g, 16777216, g * t);
+        let square = word(t, 268435456, g * g);
+        work[to + x] = seen_or(m, product, 0);
+        work[two + x] = seen_or(m, square, 0);
     }
 }
 
@@ -199,8 +171,7 @@ pub fn prepare(work: &mut [i64], mask: &[u8], frame: &[u8], v: View, k: Settings
     let h = v.tall;
     let s = k.s;
     let mut count = 0;
-    let mut i = 0;
-    while i < h + s {
+    for i in 0..h + s {
         count += take_row(
             mask,
             frame,
@@ -224,7 +195,6 @@ pub fn prepare(work: &mut [i64], mask: &[u8], frame: &[u8], v: View, k: Settings
             &mut out[..],
         );
         give_row(work, mask, frame, v, i, s, k.omega, &out[..]);
-        i += 1;
     }
     count
 }

@@ -20,7 +20,7 @@ use Rattle.rules.proofs.Good.{seen_good}
 use Rattle.rules.proofs.Candidates.{m_le}
 use Rattle.rules.proofs.Chosen.{places_of}
 use Rattle.light.specs.declared.Cut.{Cut}
-use Rattle.light.specs.Steps.{value, upto, hits, Tallied, CutAt, admitted, DarkPlane, Picked}
+use Rattle.light.specs.Steps.{value, upto, hits, Tallied, CutAt, admitted, DarkPlane}
 use Rattle.light.proofs.Positions.{count_cong, keep_cong}
 use Rattle.light.proofs.Levels.{raised, first_by_level, level_none}
 use Rattle.light.proofs.Counts.{by_counts}
@@ -89,8 +89,3 @@ module _ (z : Size) (k : Settings) (mask frame : List ℕ) (v : List ℤ) (d : D
         λ i p. guide (pixel p i)
         in
         ap lifted (sym (ap (λ (o : ℕ). (at (described z) (masked (described z) mask frame) o).value) (ap₂ brightest same let_in ∙ sym f) ∙ pixel r))
-
--- and its colour is the light
-pub light_given : (z : Size) (k : Settings) (mask frame : List ℕ) (r : ℕ) (i : Rgb) → Picked z k mask frame r → i ≡ lifted (pixel_at frame r)
-    → i ≡ light (described z) k (masked (described z) mask frame)
-light_given z k mask frame r i p e = e ∙ p.gives

@@ -3,7 +3,7 @@ use mathlib.Core.Path.{◌≡◌, refl, sym, ap, ap₂, subst, ◌∙◌}
 use mathlib.Core.Bool.{Bool, true, false, cond, ◌&&◌, ◌||◌}
 use mathlib.Core.List.{List}
 use Prim.Native.Nat.{ℕ, zero, suc, ◌+◌, ◌-◌, ◌*◌, ◌%◌, ◌≤◌, ◌<◌}
-use native.Mathlib.Decide.{dec_lt, ℕ_discrete}
+use native.Mathlib.Decide.{dec_lt}
 use native.Mathlib.Nat.{add-zero}
 use native.Mathlib.Numerals.{add-one}
 use native.Mathlib.Omega.{arith}
@@ -11,20 +11,13 @@ use borrow.Author.Tests.{eqb-true, le-leb, lt-leb, eq-eqb, ne_eqb}
 use lib.Dec.{ltb, leb, eqb}
 use lib.ListN.{length, get_or, set, drop_of_length-le}
 use lib.Seq.{get_or-set_same, get_or-set_other, drop-cons}
+use Rattle.std.proofs.lemmas.Grind.{common_steps}
 use Rattle.rules.specs.Window.{total}
 use Rattle.rules.specs.Light.{count, rank}
 use Rattle.rules.proofs.Rank.{count_or, above, reaching, earlier, by_cutoff}
 use Rattle.light.specs.declared.Cut.{Cut}
 use Rattle.light.specs.Steps.{upto, hits, Starts, Tallied, Below, lane, joined, at_least, CutAt, admitted}
 use Rattle.light.proofs.Positions.{count_cong, count_none, all_upto, hits_more, hits_le, count_before}
-
--- one entry more is right
-pub starts_more : (g : ℕ → ℕ) (n : ℕ) (l : List ℕ) (x : ℕ) → n < length l → x ≡ g n → Starts g n l → Starts g (n + 1) (set l n x)
-starts_more g n l x b f h v s = go (dec_lt v n)
-  where
-    go : Dec (v < n) → get_or (set l n x) v 0 ≡ g v
-    go (yes k) = get_or-set_other l n v x 0 (λ e. omega arith) ∙ h v k
-    go (no k) = let e : v ≡ n = omega arith in rw e (get_or-set_same l n x 0 b ∙ f)
 
 -- one position more is counted
 pub tallied_more : (d : ℕ → ℕ) (m n : ℕ) (l : List ℕ) (x : ℕ) → x < length l → x ≡ d n → Starts (hits d n) m l → Starts (hits d (n + 1)) m (set l x (get_or l x 0 + 1))
@@ -45,11 +38,7 @@ tallied_more d m n l x b f h v s = go (dec_lt v x) (dec_lt x v)
 
 -- and no count is above how many are counted
 pub below_more : (n : ℕ) (l : List ℕ) (x : ℕ) → x < length l → x < 1028 → Below n l → Below (n + 1) (set l x (get_or l x 0 + 1))
-below_more n l x b s h v q = go (ℕ_discrete v x)
-  where
-    go : Dec (v ≡ x) → get_or (set l x (get_or l x 0 + 1)) v 0 ≤ n + 1
-    go (yes e) = rw (e, get_or-set_same l x (get_or l x 0 + 1) 0 b) (omega (arith, h x s))
-    go (no e) = rw (get_or-set_other l x v (get_or l x 0 + 1) 0 e) (omega (arith, h v q))
+below_more n l x b s h v q = grind (arith, common_steps, h v q, h x s)
 
 pub hits_below : (d : ℕ → ℕ) (n : ℕ) (l : List ℕ) → Starts (hits d n) 1028 l → Below n l
 hits_below d n l h v q = omega (arith, h v q, hits_le d n v)
@@ -107,11 +96,6 @@ at_least_last l v e = ap (total (λ (i : ℕ). i)) (drop_of_length-le l {i = v} 
 pub at_least_more : (l : List ℕ) (v : ℕ) → v < length l → at_least l v ≡ get_or l v 0 + at_least l (v + 1)
 unfolding at_least
 at_least_more l v h = rw (add-one v) (ap (total (λ (i : ℕ). i)) (drop-cons l v 0 h))
-
--- where too few are at least v, v is not 0
-pub some_below : (l : List ℕ) (v m : ℕ) → at_least l v < m → m ≤ at_least l 0 → 0 < v
-some_below l zero m h k = absurd (omega arith)
-some_below l (suc v) m h k = omega arith
 
 at_or_above : (v x : ℕ) → (eqb v x || ltb v x) ≡ leb v x
 at_or_above v x = go (dec_lt v x) (dec_lt x v)

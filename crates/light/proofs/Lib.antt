@@ -3,7 +3,6 @@ pub mod Positions
 pub mod Levels
 pub mod Counts
 pub mod Keeping
-pub mod Rows
 pub mod Minima
 pub mod Areas
 pub mod Going

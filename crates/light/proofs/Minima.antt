@@ -13,9 +13,8 @@ use Rattle.rules.specs.Buffers.{pixel_at, pixels, seen_in, masked}
 use Rattle.rules.proofs.Buffers.{at_place}
 use Rattle.rules.proofs.Fold.{window_least}
 use Rattle.windows.specs.Span.{windowed}
-use Rattle.columns.specs.Down.{RowIs, Down}
+use Rattle.columns.specs.Down.{RowIs}
 use Rattle.windows.proofs.Bridge.{bridge, windowed_cong}
-use Rattle.columns.proofs.Steps.{down_start}
 use Rattle.light.specs.Steps.{least_by, level_by, least_along, level_at}
 
 -- ---- a choice by a byte of the mask
@@ -46,10 +45,6 @@ module _ (z : Shape) (s : ℕ) (mask frame : List ℕ) where
 
   pub level_le : (p : ℕ) → level_at z s mask frame p ≤ 256
   level_le p = level_by_le (get_or mask p 0) _ (dark_le p)
-
--- no row has gone down the columns
-pub columns_start : (store ahead : List ℕ) (n s h : ℕ) (f : Plane ℕ) → Down store ahead n s h f 0
-columns_start = down_start
 
 -- the least bytes l of row y, each over its window along the row
 pub along_is : (z : Shape) (s : ℕ) (mask frame : List ℕ) (y : ℕ) (l m : List ℕ)

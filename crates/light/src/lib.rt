@@ -1,5 +1,6 @@
 // The ambient light of a frame: row by row the dark values by the window minimum and a count for each of 257 levels, then the cutoff and the
 // brightest candidate. A pixel's level is one more than its dark value, and 0 where it is hidden: so hidden pixels come after all others.
+// A level is a number and no `Option`, so that the walk and the counts look at one number a pixel.
 #![tactic(auto)]
 
 ghost use Rattle.std.specs.Prelude.{◌≡◌, cond, ◌&&◌, ◌||◌, List, ℕ, ◌+◌, ◌-◌, ◌*◌, ◌/◌, ◌≤◌, ◌<◌, max, ltb, eqb, length, get_or, ℤ, pos};
@@ -22,6 +23,7 @@ struct Cut {
 }
 
 // The candidate that leads: its position, and one more than its guide, or 0 before the first.
+// No `Option`: a candidate costs one compare, and the walk's end owes no answer for none.
 #[derive(Clone, Copy)]
 struct Leader {
     place: usize,
@@ -35,52 +37,26 @@ struct Walk {
     seen: usize,
 }
 
-fn whole(x: u32) -> usize
-    ensures { (result ≡ x) × (result ≤ 4294967295) }
-{
-    x as usize
-}
-
-// A channel of 0 becomes 1.
-fn lift(x: u8) -> u8
-    ensures { result ≡ max 1 x }
-{
-    if x < 1 { 1 } else { x }
-}
-
-// The light that the pixel at p gives.
+// The light that the pixel at p gives: a channel of 0 becomes 1.
 fn colour(frame: &[u8], p: usize) -> Rgb
     requires { 3 * p + 3 ≤ length frame.now }
     ensures { result ≡ lifted (pixel_at frame.now p) }
 {
     let i = pixel::pixel_at(frame, p);
-    let r = lift(i.r);
-    let g = lift(i.g);
-    let b = lift(i.b);
-    Rgb { r: r, g: g, b: b }
+    let r = i.r.max(1);
+    let g = i.g.max(1);
+    let b = i.b.max(1);
+    Rgb { r, g, b }
 }
 
-// A least byte, or 255 at a pixel that the byte m hides: it lowers no minimum.
-fn least_by(m: u8, d: u64) -> u16
-    requires { d ≤ 255 }
-    ensures { result ≡ least_by m d }
-{
-    let least = d as u16;
-    if m == 0 { 255 } else { least }
-}
-
-// The least bytes of n pixels from position p of the frame on.
+// The least bytes of n pixels from position p of the frame on. A hidden pixel has 255, which lowers no minimum.
 fn least_row(row: &mut [u16], mask: &[u8], frame: &[u8], p: usize, n: usize)
     requires { (n ≤ length row.old) × (p + n ≤ length mask.now) × (3 * (p + n) ≤ length frame.now) }
     ensures { (x : ℕ) → x < n → get_or row.new x 0 ≡ least_by (get_or mask.now (p + x) 0) (darkest (pixel_at frame.now (p + x))) }
 {
-    let mut x = 0;
-    while x < n {
-        row[x] = least_by(
-            mask[p + x],
-            pixel::darkest_of(pixel::pixel_at(frame, p + x)),
-        );
-        x += 1;
+    for x in 0..n {
+        let least = pixel::darkest_of(pixel::pixel_at(frame, p + x)) as u16;
+        row[x] = planes::seen_or(mask[p + x], least, 255);
     }
 }
 
@@ -109,24 +85,13 @@ fn take_row(
     windows::shrink(row, w, s, p, q)
 }
 
-// The level of a pixel of dark value d, 0 where the byte m hides it.
-fn level_by(m: u8, d: u16) -> u16
-    requires { d ≤ 255 }
-    ensures { result ≡ level_by m d }
-{
-    let level = d + 1;
-    if m == 0 { 0 } else { level }
-}
-
 // The levels of n pixels from position p of the frame on, from their dark values d.
 fn level_row(levels: &mut [u16], mask: &[u8], p: usize, n: usize, d: &[u16])
     requires { (n ≤ length levels.old) × (p + n ≤ length mask.now) × (n ≤ length d.now) × ((x : ℕ) → x < n → get_or d.now x 0 ≤ 255) }
     ensures { (x : ℕ) → x < n → get_or levels.new x 0 ≡ level_by (get_or mask.now (p + x) 0) (get_or d.now x 0) }
 {
-    let mut x = 0;
-    while x < n {
-        levels[x] = level_by(mask[p + x], d[x]);
-        x += 1;
+    for x in 0..n {
+        levels[x] = planes::seen_or(mask[p + x], d[x] + 1, 0);
     }
 }
 
@@ -135,10 +100,8 @@ fn store_row(work: &mut [i64], to: usize, n: usize, d: &[u16])
     requires { (to + n ≤ length work.old) × (n ≤ length d.now) }
     ensures { RowPut work.old work.new to (λ x. get_or d.now x 0) n }
 {
-    let mut x = 0;
-    while x < n {
+    for x in 0..n {
         work[to + x] = d[x] as i64;
-        x += 1;
     }
 }
 
@@ -149,18 +112,10 @@ fn tally_row(d: &[u16], first: usize, n: usize, apart: &mut [u32])
     ensures { (D : ℕ → ℕ) → Starts (hits (lane D) first) 1028 apart.old → ((x : ℕ) → x < n → get_or d.now x 0 ≡ D (first + x))
         → Starts (hits (lane D) (first + n)) 1028 apart.new }
 {
-    let mut x = 0;
-    while x < n {
+    for x in 0..n {
         let i = 4 * (d[x] as usize) + (first + x) % 4;
-        apart[i] = apart[i] + 1;
-        x += 1;
+        apart[i] += 1;
     }
-}
-
-fn larger(x: u16, y: u16) -> u16
-    ensures { result ≡ max x y }
-{
-    if x < y { y } else { x }
 }
 
 // The greatest of the first n.
@@ -168,13 +123,11 @@ fn greatest(d: &[u16], n: usize) -> u16
     requires { n ≤ length d.now }
     ensures { (x : ℕ) → x < n → get_or d.now x 0 ≤ result }
 {
-    let mut m = 0;
-    let mut x = 0;
-    while x < n {
-        m = larger(m, d[x]);
-        x += 1;
+    let mut greatest = 0u16;
+    for level in &d[..n] {
+        greatest = greatest.max(*level);
     }
-    m
+    greatest
 }
 
 // Step i of the minimum gives row i - s of the frame, from step s on: its levels are stored and counted, and the greatest is noted.
@@ -234,8 +187,7 @@ fn darks(
     let h = z.h;
     let s = k.s;
     let mut count = 0;
-    let mut i = 0;
-    while i < h + s {
+    for i in 0..h + s {
         count += take_row(mask, frame, z, i, s, &mut row[..], &mut p[..], &mut q[..]);
         count += columns::down(
             &row[..],
@@ -248,7 +200,6 @@ fn darks(
             &mut out[..],
         );
         give_row(work, mask, z, i, s, &out[..], &mut levels[..], apart, tops);
-        i += 1;
     }
     count
 }
@@ -275,28 +226,29 @@ fn join(apart: &[u32], counts: &mut [u32])
     requires { (length apart.now ≡ 1028) × (length counts.old ≡ 257) × Few apart.now }
     ensures { Starts (joined apart.now) 257 counts.new }
 {
-    let mut v = 0;
-    while v < 257 {
+    for v in 0..257 {
         counts[v] = together(apart, v);
-        v += 1;
     }
 }
 
-// The greatest value that at least m pixels are at or above. 257 counts of 32 bits say less than 2^41.
+// The greatest value that at least m pixels are at or above, and 0 if no greater one is. 257 counts of 32 bits say less than 2^41.
 fn cutoff(counts: &[u32], m: usize) -> Cut
     requires { (0 < length counts.now) × (length counts.now ≤ 257) × (0 < m) × (m ≤ 1099511627776) × (m ≤ at_least counts.now 0) }
     ensures { CutAt counts.now m result }
 {
-    let mut v = counts.len() - 1;
     let mut above = 0;
-    let mut next = whole(counts[v]);
-    while next < m {
+    for v in (1..counts.len()).rev() {
+        let next = above + counts[v] as usize;
+        if m <= next {
+            return Cut {
+                value: v,
+                ties: m - above,
+            };
+        }
         above = next;
-        v -= 1;
-        next = above + whole(counts[v]);
     }
     Cut {
-        value: v,
+        value: 0,
         ties: m - above,
     }
 }
@@ -305,13 +257,7 @@ fn cutoff(counts: &[u32], m: usize) -> Cut
 fn admits(d: usize, cut: usize, seen: usize, ties: usize) -> bool
     ensures { result ≡ (ltb cut d || (eqb cut d && ltb seen ties)) }
 {
-    if cut < d {
-        return true;
-    }
-    if d < cut {
-        return false;
-    }
-    seen < ties
+    cut < d || cut == d && seen < ties
 }
 
 // How many have been seen at the cutoff, with a pixel of level d.
@@ -327,8 +273,7 @@ fn guide_at(frame: &[u8], p: usize) -> u64
     requires { 3 * p + 3 ≤ length frame.now }
     ensures { (result ≡ guide (pixel_at frame.now p)) × (result ≤ 765) }
 {
-    let i = pixel::pixel_at(frame, p);
-    pixel::guide_of(i)
+    pixel::guide_of(pixel::pixel_at(frame, p))
 }
 
 // A brighter candidate takes the lead, an equal one does not. The pixel at p is looked at only if it is a candidate.
@@ -358,18 +303,13 @@ fn walk_row(frame: &[u8], work: &[i64], first: usize, n: usize, cut: Cut, b: Wal
     let ties = cut.ties;
     let mut leader = b.leader;
     let mut seen = b.seen;
-    let mut p = first;
-    while p < first + n {
+    for p in first..first + n {
         let d = level(work, p);
         let ok = admits(d, value, seen, ties);
         leader = better(leader, ok, frame, p);
         seen = seen_now(d, value, seen);
-        p += 1;
     }
-    Walk {
-        leader: leader,
-        seen: seen,
-    }
+    Walk { leader, seen }
 }
 
 // A row whose greatest level, `top`, is below the cutoff has no candidate and is passed over.
@@ -404,10 +344,8 @@ fn choose(frame: &[u8], work: &[i64], z: Size, cut: Cut, tops: &[u16]) -> usize
         leader: Leader { place: 0, top: 0 },
         seen: 0,
     };
-    let mut y = 0;
-    while y < h {
+    for y in 0..h {
         b = choose_row(frame, work, y * w, w, cut, tops[y], b);
-        y += 1;
     }
     b.leader.place
 }
@@ -417,8 +355,7 @@ fn candidates(n: usize, share: u64) -> usize
     requires { (n ≤ 262144) × (share ≤ 1000) }
     ensures { result ≡ max 1 (n * share / 1000) }
 {
-    let m = n * (share as usize) / 1000;
-    if m < 1 { 1 } else { m }
+    (n * (share as usize) / 1000).max(1)
 }
 
 // The position of the pixel that gives the light, from the levels, their counts and their bounds.
@@ -438,7 +375,7 @@ fn pick(
     let mut counts = [0u32; 257];
     join(apart, &mut counts[..]);
     let n = z.w * z.h;
-    let seen = n - whole(counts[0]);
+    let seen = n - counts[0] as usize;
     let m = candidates(seen, k.share);
     let cut = cutoff(&counts[..], m);
     choose(frame, work, z, cut, tops)

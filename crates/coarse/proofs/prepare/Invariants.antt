@@ -1,11 +1,7 @@
 -- `coarse::prepare` meets its contract. The loop's invariant is `Going`: the columns have taken i rows, i - s rows of samples stand in the work area, and
 -- the comparisons so far are counted. Assumes nothing.
-use Prim.Native.Nat.{◌+◌, ◌-◌}
 use Rattle.coarse.proofs.Going.{Going}
 use Rattle.coarse.proofs.prepare.Given as goal
 
 abbrev pub invariant-loop-i : goal.invariant-loop-i
 invariant-loop-i l = Going l.v l.k l.a l.mask l.frame l.initial.work l.work l.row l.p l.q l.store l.ahead l.out l.count l.i
-
-abbrev pub decreases-loop-i : goal.decreases-loop-i
-decreases-loop-i l = l.v.tall + l.k.s - l.i

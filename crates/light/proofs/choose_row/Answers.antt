@@ -6,4 +6,4 @@ use Rattle.light.proofs.choose_row.Goals as goal
 pub returns-then-top-cut : goal.returns-then-top-cut
 returns-then-top-cut c =
     let a = c.args in
-    passed a.frame.now a.work.now a.cut a.first a.n a.b (λ x h. omega (arith, c.requires.by_index x h, c.if-top-cut.true)) c.requires.walkable.4
+    passed a.frame.now a.work.now a.cut a.first a.n a.b (λ x h. omega (arith, c.requires.by_index x h)) c.requires.walkable.4

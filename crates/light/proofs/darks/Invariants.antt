@@ -1,12 +1,7 @@
 -- `light::darks` meets its contract. The loop's invariant is `Going`: the columns have taken i rows, i - s rows are given, and the comparisons are counted. Assumes nothing.
-use Prim.Native.Nat.{◌+◌, ◌-◌}
 use Rattle.rules.specs.Shape.{described}
 use Rattle.light.proofs.Going.{Going}
 use Rattle.light.proofs.darks.Given as goal
 
 abbrev pub invariant-loop-i : goal.invariant-loop-i
-invariant-loop-i l =
-    Going (described l.z) l.s l.mask l.frame l.initial.work l.work l.apart l.tops l.row l.p l.q l.store l.ahead l.out l.levels l.count l.i
-
-abbrev pub decreases-loop-i : goal.decreases-loop-i
-decreases-loop-i l = l.h + l.s - l.i
+invariant-loop-i l = Going (described l.z) l.s l.mask l.frame l.initial.work l.work l.apart l.tops l.store l.ahead l.count l.i

