@@ -44,7 +44,7 @@ patch_at : {A : Type 0} (t : ℕ → ℕ → Bool) (new old : Plane A) (v u : �
 unfolding patch
 patch_at t new old v u e = rw e
 
-module _ (z : Shape) (k : Settings) (a : Rgb) (g : Plane (Shown Rgb)) (f p o : Rect) (n : Nested z k f p o) where
+module _ {z : Shape} {k : Settings} (a : Rgb) (g : Plane (Shown Rgb)) {f p o : Rect} (n : Nested z k f p o) where
   box_fits : Fits z (shape_of f) f.y f.x
   box_fits = record { rows = omega (arith, n.box.down); columns = omega (arith, n.box.east) }
 
@@ -159,7 +159,7 @@ lined_seen d same = record {
 
 -- ---- what the passes ask for and leave, in words of the rectangles
 
-module _ (z : Shape) (k : Settings) (a : Rgb) (mask frame : List ℕ) (given : Given z z 0 0 k a mask frame) (f p o : Rect) (n : Nested z k f p o) where
+module _ {z : Shape} {k : Settings} {a : Rgb} {mask frame : List ℕ} (given : Given z z 0 0 k a mask frame) {f p o : Rect} (n : Nested z k f p o) where
   frame_view : (c : Rect) → Inside (whole_rect z) c → InPlane (view_of z c)
   frame_view c i = record {
     short = given.size.wide;
@@ -223,7 +223,7 @@ module _ (z : Shape) (k : Settings) (a : Rgb) (mask frame : List ℕ) (given : G
   -- the lines that the passes leave are those of p in the box
   pub lines_left : (l : List ℤ) (v w : View) → v ≡ view_of z f → w ≡ in_view f p
       → Lined l (2 * (v.wide * v.tall)) w.wide w.tall (part w.top w.left (box_seen v mask)) (part w.top w.left (fit (box_of v) k a (box_pixels v mask frame)))
-      → Lined l (2 * (f.w * f.h)) p.w p.h (box_seen (view_of z p) mask) (box_lines z k a (masked z mask frame) f p o n)
+      → Lined l (2 * (f.w * f.h)) p.w p.h (box_seen (view_of z p) mask) (box_lines a (masked z mask frame) n)
   lines_left l v w ev ew h =
       let i = n.part in
       lined_seen (rw (ev, ew) at h)
@@ -231,14 +231,14 @@ module _ (z : Shape) (k : Settings) (a : Rgb) (mask frame : List ℕ) (given : G
 
   -- the map that is written is the frame's
   pub map_left : (to v : View) → to ≡ view_of z o → v ≡ in_view p o → (old new : List ℕ)
-      → new ≡ map_with (whole to) (near 0 (rect_of to)) (entry_over to v k.r (pixels (whole to) frame) (box_lines z k a (masked z mask frame) f p o n)) old
+      → new ≡ map_with (whole to) (near 0 (rect_of to)) (entry_over to v k.r (pixels (whole to) frame) (box_lines a (masked z mask frame) n)) old
       → new ≡ map_with z (near 0 o) (map_entry z k a (masked z mask frame)) old
   unfolding masked
-  map_left to v et ev old new h = (rw (et, ev) at h) ∙ map_fresh z k a (masked z mask frame) f p o n (values z old)
+  map_left to v et ev old new h = (rw (et, ev) at h) ∙ map_fresh a (masked z mask frame) n (values z old)
 
   -- and so is the picture
   pub picture_left : (to : View) → to ≡ view_of z o → (old_map map old new : List ℕ) → map ≡ map_with z (near 0 o) (map_entry z k a (masked z mask frame)) old_map
       → new ≡ frame_with (whole to) (near 0 (rect_of to)) (recovered_by a k.t0 (pixels (whole to) frame) (values (whole to) map)) old
       → new ≡ frame_with z (near 0 o) (cleared z k a (masked z mask frame)) old
   unfolding masked
-  picture_left to et old_map map old new em h = (rw et at h) ∙ picture_fresh z k a (masked z mask frame) f p o n map (values z old_map) (pixels z old) em
+  picture_left to et old_map map old new em h = (rw et at h) ∙ picture_fresh a (masked z mask frame) n map (values z old_map) (pixels z old) em

@@ -2,7 +2,7 @@
 // the whole frame; Replace what is within s + 2r of the new pixels, by the lines within s + 3r and a box that reaches 2s + 4r.
 #![tactic(auto)]
 
-ghost use Rattle.std.specs.Prelude.{◌≡◌, ◌+◌, ◌*◌, ◌≤◌, length, get_or};
+ghost use Rattle.std.specs.Prelude.{◌≡◌, ◌+◌, ◌*◌, ◌≤◌, length};
 ghost use Rattle.rules.specs.Shape.{described, room};
 ghost use Rattle.rules.specs.Transmission.{fit as lined};
 ghost use Rattle.rules.specs.Buffers.{shown_by, map_of, picture_of, map_with, frame_with, near, pasted};
@@ -14,12 +14,10 @@ ghost use Rattle.rules.specs.Promise.{wiped, lent_of, after_clear, after_replace
 ghost use Rattle.planes.specs.View.{InPlane, box_of};
 ghost use Rattle.planes.specs.Cells.{SameFrom};
 ghost use Rattle.planes.specs.Stage.{Given, GivenView, Lined, box_seen, box_pixels};
-ghost use Rattle.writer.specs.Run.{Run};
 ghost use Rattle.clearing.specs.Call.{Loan, Inside, Nested, shape_of, in_view, view_of};
 
 use coarse::prepare;
 use filter::fit;
-use numbers::{cut, less};
 use planes::{View, wipe};
 use rules::{Rect, Rgb, Settings, Size};
 use writer::{write_map, write_picture};
@@ -30,11 +28,10 @@ use writer::{write_map, write_picture};
 fn view(z: Size, c: Rect) -> View
     ensures { result ≡ view_of (described z) c }
 {
-    let w = z.w;
-    let h = z.h;
+    let Size { w, h } = z;
     View {
-        w: w,
-        h: h,
+        w,
+        h,
         top: c.y,
         left: c.x,
         wide: c.w,
@@ -62,27 +59,15 @@ fn grow(z: Size, c: Rect, q: usize) -> Rect
     requires { GoodRect (described z) c }
     ensures { result ≡ grown_rect (described z) q c }
 {
-    let x = less(c.x, q);
-    let y = less(c.y, q);
-    let right = cut(c.x + c.w, q, z.w);
-    let low = cut(c.y + c.h, q, z.h);
+    let x = c.x.saturating_sub(q);
+    let y = c.y.saturating_sub(q);
+    let right = (c.x + c.w).saturating_add(q).min(z.w);
+    let low = (c.y + c.h).saturating_add(q).min(z.h);
     Rect {
-        x: x,
-        y: y,
+        x,
+        y,
         w: right - x,
         h: low - y,
-    }
-}
-
-// n bytes of src, from a place on, go to the front of the part.
-fn copy_run(part: &mut [u8], src: &[u8], from: usize, n: usize)
-    requires { (n ≤ length part.old) × (from + n ≤ length src.now) }
-    ensures { Run (λ i. get_or src.now i 0) from n part.old part.new }
-{
-    let mut p = 0;
-    while p < n {
-        part[p] = src[from + p];
-        p += 1;
     }
 }
 
@@ -91,12 +76,11 @@ fn paste(frame: &mut [u8], z: Size, c: Rect, new: &[u8])
     requires { GoodRect (described z) c × (length frame.old ≡ 3 * (z.w * z.h)) × (length new.now ≡ 3 * (c.w * c.h)) }
     ensures { frame.new ≡ pasted (described z) c new.now frame.old }
 {
-    let h = c.h;
-    let mut j = 0;
-    while j < h {
-        let from = 3 * ((c.y + j) * z.w + c.x);
-        copy_run(&mut frame[from..], new, 3 * (j * c.w), 3 * c.w);
-        j += 1;
+    let n = 3 * c.w;
+    for j in 0..c.h {
+        let to = 3 * ((c.y + j) * z.w + c.x);
+        let from = 3 * (j * c.w);
+        frame[to..to + n].copy_from_slice(&new[from..from + n]);
     }
 }
 

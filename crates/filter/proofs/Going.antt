@@ -16,7 +16,7 @@ use Rattle.planes.specs.declared.View.{View}
 use Rattle.planes.specs.View.{InPlane, Framed, row_start}
 use Rattle.planes.specs.Cells.{cells, SameFrom}
 use Rattle.planes.specs.Stage.{seen_at, box_seen, product_word, square_word, Sampled, term_of, Lined}
-use Rattle.planes.proofs.Shown.{row_end, row_inside, seen_at_lem, box_short}
+use Rattle.planes.proofs.Shown.{row_end, row_inside, seen_at_lem}
 use Rattle.planes.proofs.Tails.{rest, rest_cells}
 use Rattle.sums.specs.Sum.{Columns, RowSums}
 use Rattle.sizes.specs.Sizes.{Table, Sizes, bit, size_at}
@@ -110,26 +110,26 @@ module _ {v : View} {r y at : ℕ} {M : Plane Bool} {m us vs : List ℤ} {ns inv
   row_line_lem e =
       standing_as (seen_at mask (at + x)) (S (v.top + y) (v.left + x)).seen (word_line (get_or ns x 0) (word us x) (word vs x) e) (line e near) seen_is (word_line_lem e)
 
--- the lengths of the arrays that hold a row's sums, sizes and reciprocals
-pub record Rooms (us vs : List ℤ) (ns inverses : List ℕ) : Type 0 where
-  pub us_long : length us ≡ 1024
-  pub vs_long : length vs ≡ 1024
-  pub ns_long : length ns ≡ 1024
-  pub inverses_long : length inverses ≡ 1024
+-- room for the sums, sizes and reciprocals of a row of n pixels
+pub record Rooms (n : ℕ) (us vs : List ℤ) (ns inverses : List ℕ) : Type 0 where
+  pub us_long : n ≤ length us
+  pub vs_long : n ≤ length vs
+  pub ns_long : n ≤ length ns
+  pub inverses_long : n ≤ length inverses
 
 -- what the row's fit is given
 pub row_in : {v : View} {r y at : ℕ} {M : Plane Bool} {m us vs : List ℤ} {ns inverses mask : List ℕ} {S : Plane (Shown Sample)} → InPlane v → r ≤ 60 → y < v.tall
-    → Own v M mask at y → Summed v r y M m us vs ns inverses → Sampled m v.w v.h M S → 2 * (v.w * v.h) + 2 * (v.wide * v.tall) ≤ length m → Rooms us vs ns inverses
+    → Own v M mask at y → Summed v r y M m us vs ns inverses → Sampled m v.w v.h M S → 2 * (v.w * v.h) + 2 * (v.wide * v.tall) ≤ length m → Rooms v.wide us vs ns inverses
     → RowIn m (2 * (v.w * v.h) + y * v.wide) (2 * (v.w * v.h) + v.wide * v.tall + y * v.wide) v.wide us vs ns inverses mask at
 row_in {v} {r} {y} i hr less o q s room long =
     let end = row_end v.wide v.tall y less in
     record {
       apart = omega arith;
       room = omega arith;
-      us_long = rw long.us_long (box_short i);
-      vs_long = rw long.vs_long (box_short i);
-      ns_long = rw long.ns_long (box_short i);
-      inverses_long = rw long.inverses_long (box_short i);
+      us_long = long.us_long;
+      vs_long = long.vs_long;
+      ns_long = long.ns_long;
+      inverses_long = long.inverses_long;
       mask_long = o.room;
       us_whole = λ x hx. let e = u_is i hr less o q s x hx in e ∙ ap (λ (z : ℤ). pos (nat_abs z)) (sym e);
       vs_whole = λ x hx. let e = v_is i hr less o q s x hx in e ∙ ap (λ (z : ℤ). pos (nat_abs z)) (sym e);
@@ -141,8 +141,6 @@ row_in {v} {r} {y} i hr less o q s room long =
 
 -- l was given and m stands there now; the columns' sums, those of the mask's ones too, and the sizes are those that the row asks for
 pub record Going (v : View) (r e : ℕ) (M : Plane Bool) (l m us vs counts : List ℤ) (table ns inverses : List ℕ) (y : ℕ) : Type 0 where
-  pub count : y ≤ v.tall
-  pub long : length m ≡ length l
   pub before : SameBefore l m (2 * (v.w * v.h))
   pub after : SameFrom l m (2 * (v.w * v.h) + 2 * (v.wide * v.tall))
   pub lines : (S : Plane (Shown Sample)) → Sampled l v.w v.h M S → Lines m (2 * (v.w * v.h)) v.wide v.tall (drawn v r e S) y
@@ -157,8 +155,6 @@ module _ {v : View} {r e : ℕ} {M : Plane Bool} {l us vs counts : List ℤ} {ta
   pub going_start : Columns us (cells l 0 v.w) v.w v.h r v.top → Columns vs (cells (rest l (v.w * v.h)) 0 v.w) v.w v.h r v.top
       → Columns counts (λ u x. bit (M u x)) v.w v.h r v.top → Table table → Going v r e M l l us vs counts table ns inverses 0
   going_start a b c t = record {
-    count = omega arith;
-    long = refl;
     before = record { same = λ k h. refl };
     after = record { same = λ k h. refl };
     lines = λ S s. lines_none _ _ _ _ _;
@@ -171,14 +167,14 @@ module _ {v : View} {r e : ℕ} {M : Plane Bool} {l us vs counts : List ℤ} {ta
 
 -- row y has been summed and its lines have been written: m became n
 module _ {v : View} {r e y : ℕ} {M : Plane Bool} {l m us vs counts : List ℤ} {table ns inverses : List ℕ} (g : Going v r e M l m us vs counts table ns inverses y) (i : InPlane v)
-    (hr : r ≤ 60) (less : y < v.tall) where
+    (hr : r ≤ 60) (less : y < v.tall) (long : length m ≡ length l) where
   -- the samples stand as they did
   pub going_sampled : {S : Plane (Shown Sample)} → Sampled l v.w v.h M S → Sampled m v.w v.h M S
-  going_sampled = sampled_still g.before g.long
+  going_sampled = sampled_still g.before long
 
   module _ {n us' vs' counts' one two : List ℤ} {table' ns' inverses' mask : List ℕ} {at : ℕ} (o : Own v M mask at y) (q : Summed v r y M m one two ns' inverses') (t : Table table')
       (first : Columns us' (cells m 0 v.w) v.w v.h r (v.top + y + 1)) (second : Columns vs' (cells (rest m (v.w * v.h)) 0 v.w) v.w v.h r (v.top + y + 1))
-      (counted : Columns counts' (λ u x. bit (M u x)) v.w v.h r (v.top + y + 1)) (long : length n ≡ length m)
+      (counted : Columns counts' (λ u x. bit (M u x)) v.w v.h r (v.top + y + 1))
       (w : RowLines m n (2 * (v.w * v.h) + y * v.wide) (2 * (v.w * v.h) + v.wide * v.tall + y * v.wide) v.wide (row_line one two ns' e mask at)) where
     -- the row lies behind the samples
     same : SameBefore m n (2 * (v.w * v.h))
@@ -189,8 +185,6 @@ module _ {v : View} {r e y : ℕ} {M : Plane Bool} {l m us vs counts : List ℤ}
     going_more =
         let last : y + 1 - 1 ≡ y = omega arith in
         record {
-          count = omega arith;
-          long = long ∙ g.long;
           before = record { same = λ k h. same.same k h ∙ g.before.same k h };
           after = record { same = λ k h. row_after m n (2 * (v.w * v.h)) v.wide v.tall y _ less w k h ∙ g.after.same k h };
           lines = λ S s.
@@ -204,13 +198,13 @@ module _ {v : View} {r e y : ℕ} {M : Plane Bool} {l m us vs counts : List ℤ}
 
 -- after the last row
 pub going_end : {v : View} {r e y : ℕ} {M : Plane Bool} {l m us vs counts : List ℤ} {table ns inverses : List ℕ} → InPlane v → Going v r e M l m us vs counts table ns inverses y
-    → v.tall ≤ y → 2 * (v.w * v.h) + 2 * (v.wide * v.tall) ≤ length l → (S : Plane (Shown Sample)) → Sampled l v.w v.h M S
+    → v.tall ≤ y → 2 * (v.w * v.h) + 2 * (v.wide * v.tall) ≤ length m → (S : Plane (Shown Sample)) → Sampled l v.w v.h M S
     → Lined m (2 * (v.w * v.h)) v.wide v.tall (part v.top v.left M) (part v.top v.left (fitted v.w v.h r e S))
 going_end {v} {r} {e} i g done room S s =
     let f = g.lines S s in
     let F = part v.top v.left (fitted v.w v.h r e S) in
     record {
-      room = omega (arith, g.long);
+      room = room;
       seen = λ u x hu hx. s.seen (v.top + u) (v.left + x) (omega (arith, i.fits.rows)) (omega (arith, i.fits.columns));
       a_le = λ u x hu hx seen. rw seen at (f.a_le u x (omega arith) hx);
       b_le = λ u x hu hx seen. rw seen at (f.b_le u x (omega arith) hx);

@@ -1,34 +1,20 @@
 -- A row of lines, pixel by pixel: the line of one pixel, what is read of a row of sums, and what one line more leaves. Assumes nothing.
-use mathlib.Core.Path.{◌≡◌, refl, ap, ap₂, ◌∙◌}
+use mathlib.Core.Path.{◌≡◌, ap, ap₂, ◌∙◌}
 use mathlib.Core.Bool.{true}
 use mathlib.Core.List.{List}
-use Prim.Native.Nat.{ℕ, ◌+◌, ◌^◌, ◌≤◌, ◌<◌}
+use Prim.Native.Nat.{ℕ, ◌+◌, ◌≤◌, ◌<◌}
 use native.Mathlib.Decide.{dec_lt}
 use native.Mathlib.Omega.{arith}
 use borrow.Author.Tests.{eq-eqb, ne_eqb}
-use lib.Dec.{T}
 use lib.ListN.{length, get_or, set, length-set}
 use lib.Seq.{get_or-set_same, get_or-set_other}
 use lib.IntN.{ℤ, pos, nat_abs}
-use lib.Signed.{non_neg}
-use mir.Syntax.{w64}
-use mir.Val.{Fits}
 use Rattle.rules.specs.Transmission.{Line, offset_of}
 use Rattle.rules.proofs.Integers.{rd, rd_is}
 use Rattle.planes.specs.Stage.{seen_at}
 use Rattle.filter.specs.Row.{guides, coarses, WordMoments, word_slope, word_line, word, RowIn, flat_line, row_line, RowLines}
 
 -- ---- the lines before pixel i, and of pixel i
-
--- none yet
-pub row_none : (l : List ℤ) (s o : ℕ) (F : ℕ → Line) → RowLines l l s o 0 F
-row_none l s o F = record {
-  a = λ i h. absurd (omega arith);
-  b = λ i h. absurd (omega arith);
-  a_le = λ i h. absurd (omega arith);
-  b_le = λ i h. absurd (omega arith);
-  rest = λ k p q. refl;
-}
 
 module _ (l m : List ℤ) (s o n i : ℕ) (F : ℕ → Line) (apart : s + n ≤ o) (room : o + n ≤ length m) (less : i < n) (r : RowLines l m s o i F) where
   abbrev new : List ℤ
@@ -70,11 +56,8 @@ module _ (l m : List ℤ) (s o n i : ℕ) (F : ℕ → Line) (apart : s + n ≤ 
 
   -- the line L has been stored
   pub row_turn : (m' : List ℤ) (L : Line) → F i ≡ L → m' ≡ set (set m (s + i) L.a) (o + i) L.b → (nat_abs L.a ≤ 2560000) × (nat_abs L.b ≤ 2147483648)
-      → (length m' ≡ length m) × RowLines l m' s o (i + 1) F
-  row_turn m' L is e small = (
-    ap length e ∙ length-set (set m (s + i) L.a) (o + i) L.b ∙ length-set m (s + i) L.a,
-    rw (e, ← is) (row_more (rw is small.0) (rw is small.1)),
-  )
+      → RowLines l m' s o (i + 1) F
+  row_turn m' L is e small = rw (e, ← is) (row_more (rw is small.0) (rw is small.1))
 
 -- ---- the line of one pixel, from what `slope` and `offset` answer
 
@@ -95,12 +78,6 @@ module _ (n u v e : ℕ) {a b : ℤ} (a_is : a ≡ word_slope n u v e) (a_le : n
 
 -- ---- what is read of the sums at pixel i, and the line that it gives
 
--- a number that is not negative, as the machine reads it back
-cast : (z : ℤ) (k : ℕ) → z ≡ pos k → k < 2 ^ 63 → T (non_neg (rd z)) × Fits w64 (nat_abs (rd z))
-cast z k e h =
-    let b : rd z ≡ pos k = ap rd e ∙ rd_is (pos k) h in
-    rw b (tt, record { fits = omega arith })
-
 -- none of a hidden pixel
 pub hidden_line : (us vs : List ℤ) (ns : List ℕ) (e : ℕ) (mask : List ℕ) (at i : ℕ) → get_or mask (at + i) 0 ≡ 0 → row_line us vs ns e mask at i ≡ flat_line
 hidden_line us vs ns e mask at i zero = rw (eq-eqb (get_or mask (at + i) 0) 0 zero)
@@ -112,36 +89,16 @@ module _ {l us vs : List ℤ} {ns inverses mask : List ℕ} {s o n at : ℕ} (p 
   known : WordMoments (get_or ns i 0) (word us i) (word vs i)
   known = p.moments i h seen
 
-  -- both words fit
-  u_most : word us i < 2 ^ 63
-  u_most = omega (arith, known.gt, known.few)
-
-  v_most : word vs i < 2 ^ 63
-  v_most = omega (arith, known.gg, known.few)
-
-  -- and are read back as they are
+  -- both words fit, and are read back as they are
   u_back : rd (get_or us i (pos 0)) ≡ get_or us i (pos 0)
-  u_back = rd_is (get_or us i (pos 0)) u_most
+  u_back = rd_is (get_or us i (pos 0)) (omega (arith, known.gt, known.few))
 
   v_back : rd (get_or vs i (pos 0)) ≡ get_or vs i (pos 0)
-  v_back = rd_is (get_or vs i (pos 0)) v_most
+  v_back = rd_is (get_or vs i (pos 0)) (omega (arith, known.gg, known.few))
 
-  -- so they can be taken as unsigned
-  pub u_cast : T (non_neg (rd (get_or us i (pos 0)))) × Fits w64 (nat_abs (rd (get_or us i (pos 0))))
-  u_cast = cast (get_or us i (pos 0)) (word us i) (p.us_whole i h) u_most
-
-  pub v_cast : T (non_neg (rd (get_or vs i (pos 0)))) × Fits w64 (nat_abs (rd (get_or vs i (pos 0))))
-  v_cast = cast (get_or vs i (pos 0)) (word vs i) (p.vs_whole i h) v_most
-
-  abbrev u : ℕ
-  u = nat_abs (rd (get_or us i (pos 0)))
-
-  abbrev v : ℕ
-  v = nat_abs (rd (get_or vs i (pos 0)))
-
-  -- what the pixel's fit asks for, and the line that it stores
-  pub read_moments : WordMoments (get_or ns i 0) u v
+  -- so what the pixel's fit asks for holds of the words as they are read, and its line is theirs
+  pub read_moments : WordMoments (get_or ns i 0) (nat_abs (rd (get_or us i (pos 0)))) (nat_abs (rd (get_or vs i (pos 0))))
   read_moments = rw (u_back, v_back) known
 
-  pub read_line : (e : ℕ) → row_line us vs ns e mask at i ≡ word_line (get_or ns i 0) u v e
+  pub read_line : (e : ℕ) → row_line us vs ns e mask at i ≡ word_line (get_or ns i 0) (nat_abs (rd (get_or us i (pos 0)))) (nat_abs (rd (get_or vs i (pos 0)))) e
   read_line e = rw (u_back, v_back, seen)

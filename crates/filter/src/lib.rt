@@ -57,8 +57,7 @@ fn fit_row(
     requires { RowIn work.old slopes offsets n products.now squares.now ns.now inverses.now mask.now at × (0 < e) × (e ≤ 585225) }
     ensures { RowLines work.old work.new slopes offsets n (row_line products.now squares.now ns.now e mask.now at) }
 {
-    let mut i = 0;
-    while i < n {
+    for i in 0..n {
         if mask[at + i] == 0 {
             put_line(work, slopes + i, offsets + i, 0, 0);
         } else {
@@ -66,7 +65,6 @@ fn fit_row(
             let v = squares[i] as u64;
             fit_pixel(work, slopes + i, offsets + i, ns[i], inverses[i], u, v, e);
         }
-        i += 1;
     }
 }
 
@@ -103,8 +101,7 @@ pub fn fit(work: &mut [i64], mask: &[u8], b: View, v: View, r: usize, e: u64)
     sizes::begin(&mut counts[..], mask, b, v, r);
     begin(&mut products[..], &work[..], v, r);
     begin(&mut squares[..], &work[plane..], v, r);
-    let mut y = 0;
-    while y < tall {
+    for y in 0..tall {
         resize(
             mask,
             b,
@@ -143,6 +140,5 @@ pub fn fit(work: &mut [i64], mask: &[u8], b: View, v: View, r: usize, e: u64)
             mask,
             own_place(b, v, y),
         );
-        y += 1;
     }
 }

@@ -3,7 +3,6 @@ pub mod Runs
 pub mod Parts
 pub mod Rows
 pub mod Placed
-pub mod Scaled
 pub mod Recovered
 pub mod Lines
 pub mod Sliding

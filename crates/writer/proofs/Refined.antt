@@ -7,7 +7,7 @@ use Prim.Native.Nat.{ℕ, ◌+◌, ◌-◌, ◌*◌, ◌/◌, ◌%◌, ◌≤◌
 use native.Mathlib.Omega.{arith}
 use lib.Dec.{eqb}
 use lib.ListN.{length, get_or}
-use lib.IntN.{ℤ, pos, nat_abs}
+use lib.IntN.{ℤ, pos}
 use Rattle.rules.specs.declared.Rgb.{Rgb}
 use Rattle.rules.specs.Window.{Plane, Shown, window, total_z}
 use Rattle.rules.specs.Light.{guide, at}
@@ -21,9 +21,8 @@ use Rattle.planes.specs.declared.View.{View}
 use Rattle.planes.specs.View.{whole, rect_of, InPlane, row_start}
 use Rattle.planes.specs.Cells.{cells}
 use Rattle.planes.specs.Stage.{Lined, seen_at, box_seen}
-use Rattle.planes.proofs.Shown.{box_short, row_inside, seen_at_lem}
+use Rattle.planes.proofs.Shown.{row_inside, seen_at_lem}
 use Rattle.planes.proofs.Tails.{rest, rest_cells}
-use Rattle.pixel.specs.Over.{Over, parts}
 use Rattle.pixel.proofs.Sizes.{refined_le}
 use Rattle.sums.specs.Sum.{RowSums}
 use Rattle.sizes.specs.Sizes.{Sizes}
@@ -38,6 +37,11 @@ use Rattle.writer.proofs.Lines.{window_sum, window_size}
 
 -- ---- one entry of a row, from the sums and the size of its window
 
+-- what a byte of the mask chooses: `hid` says that it hides its pixel
+hidden_or : (hid : Bool) (t : ℕ) → cond (not hid) t 10000 ≡ cond hid 10000 t
+hidden_or true t = refl
+hidden_or false t = refl
+
 module _ (n : ℕ) (slopes offsets : List ℤ) (ns inverses : List ℕ) (win : Windows n slopes offsets ns inverses) (i : ℕ) (less : i < n) where
   -- the sums fit an i64
   slope_is : rd (get_or slopes i (pos 0)) ≡ get_or slopes i (pos 0)
@@ -46,19 +50,13 @@ module _ (n : ℕ) (slopes offsets : List ℤ) (ns inverses : List ℕ) (win : W
   offset_is : rd (get_or offsets i (pos 0)) ≡ get_or offsets i (pos 0)
   offset_is = rd_is (get_or offsets i (pos 0)) (omega (arith, win.few i less, win.b_le i less))
 
-  -- what `refined` asks
-  pub window_asks : (g : ℕ) → g ≤ 765
-      → (0 < get_or ns i 0) × (get_or ns i 0 ≤ 14641) × Over 1 (get_or ns i 0) parts (get_or inverses i 0) × (g ≤ 765)
-      × (nat_abs (rd (get_or slopes i (pos 0))) ≤ 2560000 * get_or ns i 0) × (nat_abs (rd (get_or offsets i (pos 0))) ≤ 2147483648 * get_or ns i 0)
-  window_asks g h = (win.some i less, win.few i less, win.over i less, h, rw slope_is (win.a_le i less), rw offset_is (win.b_le i less))
-
-  -- and what is chosen of its answer t is the entry of position p + i
+  -- what is chosen of the refined value t is the entry of position p + i
   pub entry_is : (mask frame : List ℕ) (p : ℕ) (j : Rgb) (g t e : ℕ) → j ≡ pixel_at frame (p + i) → g ≡ guide j
-      → t ≡ refine_of (get_or ns i 0) (rd (get_or slopes i (pos 0))) (rd (get_or offsets i (pos 0))) g → e ≡ entry_by (get_or mask (p + i) 0) t
+      → t ≡ refine_of (get_or ns i 0) (rd (get_or slopes i (pos 0))) (rd (get_or offsets i (pos 0))) g → e ≡ cond (seen_at mask (p + i)) t 10000
       → e ≡ entry_from mask frame p slopes offsets ns (p + i)
   entry_is mask frame p j g t e ej eg et ee =
       let k : p + i - p ≡ i = omega arith in
-      ee ∙ rw (et, slope_is, offset_is, eg, ej, k)
+      ee ∙ hidden_or (eqb (get_or mask (p + i) 0) 0) t ∙ rw (et, slope_is, offset_is, eg, ej, k)
 
 -- ---- numbers that are the size of a list of lines, at least 1, and the sums of their slopes and offsets
 
@@ -85,10 +83,10 @@ pub record RowRead (b v : View) (r y : ℕ) (mask : List ℕ) (l : List ℤ) (li
   pub sizes : Sizes v r (box_seen b mask) (v.top + y) ns inverses
   pub slopes : RowSums one (cells (rest l lines) 0 v.w) v.w v.h r (v.top + y) v.left v.wide
   pub offsets : RowSums two (cells (rest l (lines + v.w * v.h)) 0 v.w) v.w v.h r (v.top + y) v.left v.wide
-  pub one_long : length one ≡ 1024
-  pub two_long : length two ≡ 1024
-  pub ns_long : length ns ≡ 1024
-  pub inverses_long : length inverses ≡ 1024
+  pub one_long : v.wide ≤ length one
+  pub two_long : v.wide ≤ length two
+  pub ns_long : v.wide ≤ length ns
+  pub inverses_long : v.wide ≤ length inverses
 
 module _ (b v : View) (r y : ℕ) (mask : List ℕ) (l : List ℤ) (base : ℕ) (one two : List ℤ) (ns inverses : List ℕ) (row : RowRead b v r y mask l base one two ns inverses)
     (F : Plane (Shown Line)) (lined : Lined l base v.w v.h (box_seen b mask) F) (p : InPlane v) (hr : r ≤ 60) (hy : y < v.tall) where
@@ -119,10 +117,10 @@ module _ (b v : View) (r y : ℕ) (mask : List ℕ) (l : List ℤ) (base : ℕ) 
   -- what the row's function asks of all
   pub windows : Windows v.wide one two ns inverses
   windows = record {
-    a_long = rw row.one_long (box_short p);
-    b_long = rw row.two_long (box_short p);
-    n_long = rw row.ns_long (box_short p);
-    i_long = rw row.inverses_long (box_short p);
+    a_long = row.one_long;
+    b_long = row.two_long;
+    n_long = row.ns_long;
+    i_long = row.inverses_long;
     some = λ i h. rw (row.sizes.is i h) (size_some v.w v.h r (box_seen b mask) (v.top + y) (v.left + i));
     few = λ i h. rw (row.sizes.is i h) (size_few v.w v.h r (box_seen b mask) (v.top + y) (v.left + i) hr);
     over = row.sizes.over;

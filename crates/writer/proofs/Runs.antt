@@ -1,8 +1,7 @@
 -- A run that is written element by element, and pixel by pixel. Assumes nothing.
-use mathlib.Core.Path.{◌≡◌, refl, ap, ap₂, ◌∙◌, subst}
+use mathlib.Core.Path.{◌≡◌, ap, ap₂, ◌∙◌, subst}
 use mathlib.Core.List.{List}
 use Prim.Native.Nat.{ℕ, ◌+◌, ◌*◌, ◌/◌, ◌%◌, ◌≤◌, ◌<◌}
-use native.Mathlib.Nat.{not-suc-le-zero}
 use native.Mathlib.Omega.{arith}
 use lib.ListN.{length, set, length-set}
 use lib.Seq.{get_or-set_other}
@@ -17,9 +16,6 @@ pub run_as : (F G : ℕ → ℕ) (a b n : ℕ) (old new : List ℕ) → ((k : �
 run_as F G a b n old new e r = record { same = r.same; in_run = λ k h. r.in_run k h ∙ e k h; past = r.past }
 
 module _ (F : ℕ → ℕ) (a : ℕ) where
-  pub run_none : (old : List ℕ) → Run F a 0 old old
-  run_none old = record { same = refl; in_run = λ k h. absurd (not-suc-le-zero h); past = λ k h. refl }
-
   pub run_to : {m n : ℕ} {old new : List ℕ} → m ≡ n → Run F a m old new → Run F a n old new
   run_to {old = old} {new} e r = subst (λ (k : ℕ). Run F a k old new) e r
 

@@ -2,29 +2,21 @@
 // lent buffer that starts at the run's first pixel.
 #![tactic(auto)]
 
-ghost use Rattle.std.specs.Prelude.{◌≡◌, ℕ, ◌+◌, ◌*◌, ◌≤◌, ◌<◌, max, length, get_or};
+ghost use Rattle.std.specs.Prelude.{◌≡◌, ℕ, ◌+◌, ◌*◌, ◌≤◌, ◌<◌, length, get_or};
 ghost use Rattle.rules.specs.Window.{Plane, Shown};
 ghost use Rattle.rules.specs.Transmission.{Line};
 ghost use Rattle.rules.specs.Buffers.{pixels, values, map_with, frame_with, near};
 ghost use Rattle.planes.specs.View.{InPlane, Framed, whole, rect_of};
 ghost use Rattle.planes.specs.Stage.{Lined, Lining, box_seen};
 ghost use Rattle.writer.specs.Run.{Run};
-ghost use Rattle.writer.specs.Row.{Windows, entry_from, entry_by, ScaleOf, Known, Scales, floored_at, bytes_of, cleared_by, Floored};
+ghost use Rattle.writer.specs.Row.{Windows, entry_from, ScaleOf, Known, Scales, floored_at, bytes_of, cleared_by, Floored};
 ghost use Rattle.writer.specs.Write.{Placed, entry_over, recovered_by, Entries};
 
 use pixel::{guide_of, pixel_at, recovered, refined, scale};
-use planes::{View, row_start};
+use planes::{View, row_start, seen_or};
 use rules::Rgb;
 use sizes::resize;
 use sums::{begin, next};
-
-// A map entry: a refined value, or 10,000 at a pixel that the byte m hides.
-fn entry_by(m: u8, t: u64) -> u16
-    requires { t ≤ 10000 }
-    ensures { result ≡ entry_by m t }
-{
-    if m == 0 { 10000 } else { t as u16 }
-}
 
 // The map entries of n pixels of the frame from position p on go to the front of the part.
 fn refine_row(
@@ -41,8 +33,7 @@ fn refine_row(
     requires { (n ≤ length map.old) × (p + n ≤ length mask.now) × (3 * (p + n) ≤ length frame.now) × Windows n slopes.now offsets.now ns.now inverses.now }
     ensures { Run (entry_from mask.now frame.now p slopes.now offsets.now ns.now) p n map.old map.new }
 {
-    let mut i = 0;
-    while i < n {
+    for i in 0..n {
         let t = refined(
             ns[i],
             inverses[i],
@@ -50,19 +41,12 @@ fn refine_row(
             offsets[i],
             guide_of(pixel_at(frame, p + i)),
         );
-        map[i] = entry_by(mask[p + i], t);
-        i += 1;
+        map[i] = seen_or(mask[p + i], t as u16, 10000);
     }
 }
 
-// The transmission that the recovery goes by.
-fn floored(v: u64, t0: u64) -> u64
-    ensures { result ≡ max v t0 }
-{
-    if v < t0 { t0 } else { v }
-}
-
 // The scale of a transmission, from the table, where 0 says that it is not known yet.
+// No scale is 0, and an Option for each entry would double the table that every call sets up.
 fn scale_of(table: &mut [u32], t: u64) -> u32
     requires { Known table.old × (t ≤ 10000) }
     ensures known { Known table.new }
@@ -84,10 +68,8 @@ fn scale_row(scales: &mut [u32], n: usize, map: &[u16], t0: u64, table: &mut [u3
     ensures known { Known table.new }
     ensures scales { Scales (floored_at map.now t0) n scales.new }
 {
-    let mut x = 0;
-    while x < n {
-        scales[x] = scale_of(table, floored(map[x] as u64, t0));
-        x += 1;
+    for x in 0..n {
+        scales[x] = scale_of(table, (map[x] as u64).max(t0));
     }
 }
 
@@ -97,15 +79,13 @@ fn recover_row(picture: &mut [u8], frame: &[u8], p: usize, n: usize, a: Rgb, sca
     ensures { (T : ℕ → ℕ) → Floored T n → Scales T n scales.now
         → Run (bytes_of (cleared_by a frame.now p T)) (3 * p) (3 * n) picture.old picture.new }
 {
-    let mut x = 0;
-    while x < n {
+    for x in 0..n {
         let k = scales[x];
         let i = pixel_at(frame, p + x);
         let q = 3 * x;
         picture[q] = recovered(a.r, i.r, k);
         picture[q + 1] = recovered(a.g, i.g, k);
         picture[q + 2] = recovered(a.b, i.b, k);
-        x += 1;
     }
 }
 
@@ -140,8 +120,7 @@ pub fn write_map(
     sizes::begin(&mut counts[..], mask, b, v, r);
     begin(&mut slopes[..], &work[lines..], v, r);
     begin(&mut offsets[..], &work[second..], v, r);
-    let mut y = 0;
-    while y < v.tall {
+    for y in 0..v.tall {
         resize(
             mask,
             b,
@@ -176,7 +155,6 @@ pub fn write_map(
             &ns[..],
             &over[..],
         );
-        y += 1;
     }
 }
 
@@ -189,12 +167,10 @@ pub fn write_picture(picture: &mut [u8], map: &[u16], frame: &[u8], to: View, a:
 {
     let mut table = [0u32; 10001];
     let mut scales = [0u32; 1024];
-    let mut y = 0;
-    while y < to.tall {
+    for y in 0..to.tall {
         let from = row_start(to, y);
         let from3 = 3 * from;
         scale_row(&mut scales[..], to.wide, &map[from..], t0, &mut table[..]);
         recover_row(&mut picture[from3..], frame, from, to.wide, a, &scales[..]);
-        y += 1;
     }
 }

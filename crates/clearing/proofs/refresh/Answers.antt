@@ -6,19 +6,12 @@ use Rattle.rules.specs.Shape.{described, room}
 use Rattle.rules.specs.Buffers.{masked}
 use Rattle.rules.specs.Promise.{wiped}
 use Rattle.planes.proofs.Wiped.{wiped_same}
-use Rattle.clearing.specs.Call.{whole_rect}
-use Rattle.clearing.proofs.Fresh.{box_lines, inside_area, planes_le, rect_view, lines_view, entries_view, entries_framed, entries_placed, box_given, lines_left, map_left, picture_left}
+use Rattle.clearing.proofs.Fresh.{box_lines, planes_le, rect_view, lines_view, entries_view, entries_framed, entries_placed, box_given, lines_left, map_left, picture_left}
 use Rattle.clearing.proofs.refresh.Goals as goal
 use Rattle.clearing.proofs.refresh.Goals.{Start}
 
 room_for : (s : Start) → 2 * (s.args.f.w * s.args.f.h) + 2 * (s.args.p.w * s.args.p.h) ≤ room (described s.args.z)
 room_for s = planes_le (described s.args.z) s.args.f s.args.p s.requires.given.1.box s.requires.given.1.part
-
-box_area : (s : Start) → s.args.f.w * s.args.f.h ≤ 262144
-box_area s = omega (arith, inside_area (whole_rect (described s.args.z)) s.args.f s.requires.given.1.box, s.requires.given.0.size.area)
-
-pub within-requires : goal.within-requires
-within-requires c = c.requires.given.1.part
 
 pub lines-count-requires : goal.lines-count-requires
 lines-count-requires c =
@@ -27,18 +20,9 @@ lines-count-requires c =
     let g = c.requires.given.0 in
     let n = c.requires.given.1 in
     rw (c.view.ensures, c.within.ensures) (record {
-      given_view = (box_given z d.k d.a d.mask.now d.frame.now g d.f d.p d.o n, lines_view z d.k d.a d.mask.now d.frame.now g d.f d.p d.o n, refl, refl);
+      given_view = (box_given g n, lines_view g n, refl, refl);
       tall_in_bounds = omega (arith, room_for (goal.at.lines-count-requires c).Start, c.requires.loan.space);
     })
-
-pub overflow_mul-f : goal.overflow_mul-f
-overflow_mul-f c = omega (arith, box_area (goal.at.overflow_mul-f c).Start)
-
-pub overflow_mul-f-2 : goal.overflow_mul-f-2
-overflow_mul-f-2 c = omega (arith, box_area (goal.at.overflow_mul-f-2 c).Start)
-
-pub within-requires-2 : goal.within-requires-2
-within-requires-2 c = c.requires.given.1.rect
 
 pub write_map-requires : goal.write_map-requires
 write_map-requires c =
@@ -51,20 +35,20 @@ write_map-requires c =
     let w = c.within in
     rw (c.view-to.ensures, c.view-2.ensures, c.within-2.ensures) (record {
       in_plane = (
-        rect_view z d.k d.a d.mask.now d.frame.now g d.f d.p d.o n,
-        entries_view z d.k d.a d.mask.now d.frame.now g d.f d.p d.o n,
+        rect_view g n,
+        entries_view g n,
         refl,
         refl,
         g.settings.r_most,
-        entries_framed z d.k d.a d.mask.now d.frame.now g d.f d.p d.o n,
-        entries_placed z d.k d.a d.mask.now d.frame.now g d.f d.p d.o n,
+        entries_framed g n,
+        entries_placed g n,
       );
       map_len = (
         c.requires.loan.entries,
         g.bytes,
         record {
-          F = box_lines z d.k d.a (masked z d.mask.now d.frame.now) d.f d.p d.o n;
-          lined = lines_left z d.k d.a d.mask.now d.frame.now g d.f d.p d.o n l.new.work v.result w.result v.ensures w.ensures l.ensures.lines;
+          F = box_lines d.a (masked z d.mask.now d.frame.now) n;
+          lined = lines_left g n l.new.work v.result w.result v.ensures w.ensures l.ensures.lines;
         },
       );
     })
@@ -76,22 +60,10 @@ write_picture-requires c =
     let g = c.requires.given.0 in
     let n = c.requires.given.1 in
     let m = c.write_map in
-    let t = c.view-to in record { in_plane = (rw t.ensures (rect_view z d.k d.a d.mask.now d.frame.now g d.f d.p d.o n), g.settings.floor_some, g.settings.floor_most, rw t.ensures (m.auto.map ∙ c.requires.loan.entries), m.ensures.held); frame_len = rw t.ensures (g.bytes, c.requires.loan.bytes) }
-
-pub overflow_add-z : goal.overflow_add-z
-overflow_add-z c = omega (arith, c.requires.given.0.size.wide)
-
-pub overflow_add-z-2 : goal.overflow_add-z-2
-overflow_add-z-2 c = omega (arith, c.requires.given.0.size.tall)
-
-pub overflow_mul-z : goal.overflow_mul-z
-overflow_mul-z c = omega (arith, c.requires.given.0.size)
-
-pub overflow_mul-z-2 : goal.overflow_mul-z-2
-overflow_mul-z-2 c = omega (arith, c.requires.given.0.size)
-
-pub wipe-requires : goal.wipe-requires
-wipe-requires c = omega (arith, c.requires.loan.space, c.lines-count.auto.work)
+    let t = c.view-to in record {
+      in_plane = (rw t.ensures (rect_view g n), g.settings.floor_some, g.settings.floor_most, rw t.ensures (m.auto.map ∙ c.requires.loan.entries), m.ensures.held);
+      frame_len = rw t.ensures (g.bytes, c.requires.loan.bytes);
+    }
 
 pub returns : goal.returns
 unfolding wiped
@@ -108,5 +80,12 @@ returns c =
     let v = c.within-2 in
     let m = c.write_map in
     let x = c.write_picture in
-    let lined = lines_left z d.k d.a d.mask.now d.frame.now g d.f d.p d.o n l.new.work b.result w.result b.ensures w.ensures l.ensures.lines in
-    let map = map_left z d.k d.a d.mask.now d.frame.now g d.f d.p d.o n t.result v.result t.ensures v.ensures d.map.now m.new.map (m.ensures.map (box_lines z d.k d.a (masked z d.mask.now d.frame.now) d.f d.p d.o n) (rw (o.ensures, v.ensures) lined)) in record { map = map; picture = picture_left z d.k d.a d.mask.now d.frame.now g d.f d.p d.o n t.result t.ensures d.map.now m.new.map d.picture.now x.new.picture map x.ensures; work = c.wipe.ensures ∙ wiped_same z d.work.now l.new.work (2 * (d.f.w * d.f.h) + 2 * (d.p.w * d.p.h)) l.auto.work (room_for (goal.at.returns c).Start) (rw (b.ensures, w.ensures) at l.ensures.rest); count = rw b.ensures at l.ensures.count }
+    let lined = lines_left g n l.new.work b.result w.result b.ensures w.ensures l.ensures.lines in
+    let written = m.ensures.map (box_lines d.a (masked z d.mask.now d.frame.now) n) (rw (o.ensures, v.ensures) lined) in
+    let map = map_left g n t.result v.result t.ensures v.ensures d.map.now m.new.map written in record {
+      map = map;
+      picture = picture_left g n t.result t.ensures d.map.now m.new.map d.picture.now x.new.picture map x.ensures;
+      work = c.wipe.ensures
+          ∙ wiped_same z d.work.now l.new.work (2 * (d.f.w * d.f.h) + 2 * (d.p.w * d.p.h)) l.auto.work (room_for (goal.at.returns c).Start) (rw (b.ensures, w.ensures) at l.ensures.rest);
+      count = rw b.ensures at l.ensures.count;
+    }

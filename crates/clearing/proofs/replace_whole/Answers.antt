@@ -13,9 +13,6 @@ use Rattle.clearing.proofs.Grown.{grown_by, nested_grown, grown_entries, grown_b
 use native.Mathlib.Omega.{arith}
 use Rattle.clearing.proofs.replace_whole.Goals as goal
 
-pub grow-o-requires : goal.grow-o-requires
-grow-o-requires c = c.requires.good_rect.0
-
 pub refresh-requires : goal.refresh-requires
 refresh-requires c =
     let d = c.args in

@@ -1,11 +1,7 @@
 -- `writer::refine_row` meets its contract: after i turns the run is i entries long. Assumes nothing.
-use Prim.Native.Nat.{◌-◌, ◌≤◌}
 use Rattle.writer.specs.Run.{Run}
 use Rattle.writer.specs.Row.{entry_from}
 use Rattle.writer.proofs.refine_row.Given as goal
 
 abbrev pub invariant-loop-i : goal.invariant-loop-i
-invariant-loop-i l = (l.i ≤ l.n) × Run (entry_from l.mask l.frame l.p l.slopes l.offsets l.ns) l.p l.i l.initial.map l.map
-
-abbrev pub decreases-loop-i : goal.decreases-loop-i
-decreases-loop-i l = l.n - l.i
+invariant-loop-i l = Run (entry_from l.mask l.frame l.p l.slopes l.offsets l.ns) l.p l.i l.initial.map l.map

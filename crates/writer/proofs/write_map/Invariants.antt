@@ -1,5 +1,4 @@
 -- `writer::write_map` meets its contract: after y turns the first y rows are in the map. Assumes nothing.
-use Prim.Native.Nat.{◌-◌, ◌≤◌}
 use Rattle.rules.specs.Window.{Plane, Shown}
 use Rattle.rules.specs.Light.{at}
 use Rattle.rules.specs.Transmission.{Line}
@@ -13,12 +12,8 @@ use Rattle.writer.proofs.Sliding.{Sliding}
 use Rattle.writer.proofs.write_map.Given as goal
 
 abbrev pub invariant-loop-y : goal.invariant-loop-y
-invariant-loop-y l =
-    (l.y ≤ l.v.tall)
-    × ((F : Plane (Shown Line)) → Lined l.work l.lines l.v.w l.v.h (box_seen l.b l.mask) F
-    → Upto (at (whole l.to) (entry_over l.to l.v l.r (pixels (whole l.to) l.frame) F)) (entry_in l.to.w (rows (rect_of l.to) l.y)) l.initial.map l.map)
-    × Sliding l.b l.v l.r l.mask l.work l.lines l.y l.slopes l.offsets l.counts l.one l.two l.ns l.over l.table
-
-abbrev pub decreases-loop-y : goal.decreases-loop-y
-decreases-loop-y l =
-    l.v.tall - l.y
+invariant-loop-y l = record {
+  written : (F : Plane (Shown Line)) → Lined l.work l.lines l.v.w l.v.h (box_seen l.b l.mask) F
+      → Upto (at (whole l.to) (entry_over l.to l.v l.r (pixels (whole l.to) l.frame) F)) (entry_in l.to.w (rows (rect_of l.to) l.y)) l.initial.map l.map;
+  sliding : Sliding l.b l.v l.r l.mask l.work l.lines l.y l.slopes l.offsets l.counts l.ns l.over l.table;
+}
