@@ -44,14 +44,14 @@ fn scales_of(a: Rgb) -> Scales
     }
 }
 
-// The least ratios of n pixels from position p of the frame on.
-fn ratio_row(row: &mut [u16], mask: &[u8], frame: &[u8], p: usize, n: usize, a: Rgb, k: Scales)
-    requires { (n ≤ length row.old) × (p + n ≤ length mask.now) × (3 * (p + n) ≤ length frame.now) × GoodLight a × ScaledBy a k }
-    ensures { (x : ℕ) → x < n → get_or row.new x 0 ≡ ratio_at a (masked_at mask.now frame.now (p + x)) }
+// The least ratios of a row of pixels.
+fn ratio_row(row: &mut [u16], mask: &[u8], frame: &[u8], a: Rgb, k: Scales)
+    requires { (length mask.now ≡ length row.old) × (length frame.now ≡ 3 * length row.old) × GoodLight a × ScaledBy a k }
+    ensures { (x : ℕ) → x < length row.old → get_or row.new x 0 ≡ ratio_at a (masked_at mask.now frame.now x) }
 {
-    for x in 0..n {
-        let ratio = least_ratio(pixel_at(frame, p + x), a, k) as u16;
-        row[x] = seen_or(mask[p + x], ratio, 10000);
+    for x in 0..row.len() {
+        let ratio = least_ratio(pixel_at(frame, x), a, k) as u16;
+        row[x] = seen_or(mask[x], ratio, 10000);
     }
 }
 
@@ -69,15 +69,17 @@ fn take_row(
     q: &mut [u16],
 ) -> usize
     requires in_plane { InPlane v × (s ≤ 30) × (length mask.now ≡ v.w * v.h) × (length frame.now ≡ 3 * (v.w * v.h)) × GoodLight a × ScaledBy a k }
-    requires row_len { (length row.old ≡ 1024) × (length p.old ≡ 1024) × (length q.old ≡ 1024) }
+    requires row_len { (length row.old ≡ v.wide) × (length p.old ≡ 1024) × (length q.old ≡ 1024) }
     ensures mins { i < v.tall → RowIs row.new (least_along v a s mask.now frame.now) i v.wide }
     ensures count { result ≡ along_count s v.wide v.tall i }
 {
     if v.tall <= i {
         return 0;
     }
-    ratio_row(row, mask, frame, row_start(v, i), v.wide, a, k);
-    shrink(row, v.wide, s, p, q)
+    let from = row_start(v, i);
+    let to = from + v.wide;
+    ratio_row(row, &mask[from..to], &frame[3 * from..3 * to], a, k);
+    shrink(row, s, p, q)
 }
 
 // The word that has `low`, and `high` in units of `unit` above it.
@@ -160,30 +162,20 @@ pub fn prepare(work: &mut [i64], mask: &[u8], frame: &[u8], v: View, k: Settings
     ensures rest { SameFrom work.old work.new (2 * (v.wide * v.tall)) }
     ensures count { result ≡ frame_comparisons (box_of v) k.s }
 {
+    let w = v.wide;
+    let h = v.tall;
     let mut row = [0u16; 1024];
+    let row = &mut row[..w];
     let mut p = [0u16; 1024];
     let mut q = [0u16; 1024];
     let mut store = [0u16; 62464];
     let mut ahead = [0u16; 1024];
     let mut out = [0u16; 1024];
     let by = scales_of(a);
-    let w = v.wide;
-    let h = v.tall;
     let s = k.s;
     let mut count = 0;
     for i in 0..h + s {
-        count += take_row(
-            mask,
-            frame,
-            v,
-            i,
-            s,
-            a,
-            by,
-            &mut row[..],
-            &mut p[..],
-            &mut q[..],
-        );
+        count += take_row(mask, frame, v, i, s, a, by, row, &mut p[..], &mut q[..]);
         count += down(
             &row[..],
             i,

@@ -49,14 +49,14 @@ fn colour(frame: &[u8], p: usize) -> Rgb
     Rgb { r, g, b }
 }
 
-// The least bytes of n pixels from position p of the frame on. A hidden pixel has 255, which lowers no minimum.
-fn least_row(row: &mut [u16], mask: &[u8], frame: &[u8], p: usize, n: usize)
-    requires { (n ≤ length row.old) × (p + n ≤ length mask.now) × (3 * (p + n) ≤ length frame.now) }
-    ensures { (x : ℕ) → x < n → get_or row.new x 0 ≡ least_by (get_or mask.now (p + x) 0) (darkest (pixel_at frame.now (p + x))) }
+// The least bytes of a row of pixels. A hidden pixel has 255, which lowers no minimum.
+fn least_row(row: &mut [u16], mask: &[u8], frame: &[u8])
+    requires { (length mask.now ≡ length row.old) × (length frame.now ≡ 3 * length row.old) }
+    ensures { (x : ℕ) → x < length row.old → get_or row.new x 0 ≡ least_by (get_or mask.now x 0) (darkest (pixel_at frame.now x)) }
 {
-    for x in 0..n {
-        let least = pixel::darkest_of(pixel::pixel_at(frame, p + x)) as u16;
-        row[x] = planes::seen_or(mask[p + x], least, 255);
+    for x in 0..row.len() {
+        let least = pixel::darkest_of(pixel::pixel_at(frame, x)) as u16;
+        row[x] = planes::seen_or(mask[x], least, 255);
     }
 }
 
@@ -72,7 +72,7 @@ fn take_row(
     q: &mut [u16],
 ) -> usize
     requires good_size { GoodSize (described z) × (s ≤ 30) × (length mask.now ≡ z.w * z.h) × (length frame.now ≡ 3 * (z.w * z.h)) }
-    requires row_len { (length row.old ≡ 1024) × (length p.old ≡ 1024) × (length q.old ≡ 1024) }
+    requires row_len { (length row.old ≡ z.w) × (length p.old ≡ 1024) × (length q.old ≡ 1024) }
     ensures mins { i < z.h → RowIs row.new (least_along (described z) s mask.now frame.now) i z.w }
     ensures count { result ≡ along_count s z.w z.h i }
 {
@@ -81,8 +81,10 @@ fn take_row(
     if h <= i {
         return 0;
     }
-    least_row(row, mask, frame, i * w, w);
-    windows::shrink(row, w, s, p, q)
+    let from = i * w;
+    let to = from + w;
+    least_row(row, &mask[from..to], &frame[3 * from..3 * to]);
+    windows::shrink(row, s, p, q)
 }
 
 // The levels of n pixels from position p of the frame on, from their dark values d.
@@ -176,19 +178,20 @@ fn darks(
     ensures rest { SameFrom work.old work.new (z.w * z.h) }
     ensures count { result ≡ frame_comparisons (described z) k.s }
 {
+    let w = z.w;
+    let h = z.h;
     let mut row = [0u16; 1024];
+    let row = &mut row[..w];
     let mut p = [0u16; 1024];
     let mut q = [0u16; 1024];
     let mut store = [0u16; 62464];
     let mut ahead = [0u16; 1024];
     let mut out = [0u16; 1024];
     let mut levels = [0u16; 1024];
-    let w = z.w;
-    let h = z.h;
     let s = k.s;
     let mut count = 0;
     for i in 0..h + s {
-        count += take_row(mask, frame, z, i, s, &mut row[..], &mut p[..], &mut q[..]);
+        count += take_row(mask, frame, z, i, s, row, &mut p[..], &mut q[..]);
         count += columns::down(
             &row[..],
             i,
