@@ -14,7 +14,7 @@ ghost use Rattle.pixel.specs.Over.{ScaledBy};
 ghost use Rattle.columns.specs.Down.{RowIs, along_count};
 ghost use Rattle.coarse.specs.Rows.{Scaled, ratio_at, least_along, sample_of, SamplesPut, SampledTo};
 
-use columns::down;
+use columns::Columns;
 use pixel::{Scales, coarse_of, guide_of, least_ratio, light_scale, pixel_at};
 use planes::{View, row_start, seen_or};
 use rules::{Rgb, Settings};
@@ -164,29 +164,25 @@ pub fn prepare(work: &mut [i64], mask: &[u8], frame: &[u8], v: View, k: Settings
 {
     let w = v.wide;
     let h = v.tall;
+    let s = k.s;
     let mut row = [0u16; 1024];
     let row = &mut row[..w];
     let mut p = [0u16; 1024];
     let mut q = [0u16; 1024];
-    let mut store = [0u16; 62464];
-    let mut ahead = [0u16; 1024];
+    let mut columns = Columns {
+        store: [0u16; 62464],
+        ahead: [0u16; 1024],
+        h,
+        s,
+    };
     let mut out = [0u16; 1024];
+    let out = &mut out[..w];
     let by = scales_of(a);
-    let s = k.s;
     let mut count = 0;
     for i in 0..h + s {
         count += take_row(mask, frame, v, i, s, a, by, row, &mut p[..], &mut q[..]);
-        count += down(
-            &row[..],
-            i,
-            h,
-            w,
-            s,
-            &mut store[..],
-            &mut ahead[..],
-            &mut out[..],
-        );
-        give_row(work, mask, frame, v, i, s, k.omega, &out[..]);
+        count += columns.down(row, i, out);
+        give_row(work, mask, frame, v, i, s, k.omega, out);
     }
     count
 }

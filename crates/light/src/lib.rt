@@ -180,29 +180,25 @@ fn darks(
 {
     let w = z.w;
     let h = z.h;
+    let s = k.s;
     let mut row = [0u16; 1024];
     let row = &mut row[..w];
     let mut p = [0u16; 1024];
     let mut q = [0u16; 1024];
-    let mut store = [0u16; 62464];
-    let mut ahead = [0u16; 1024];
+    let mut columns = columns::Columns {
+        store: [0u16; 62464],
+        ahead: [0u16; 1024],
+        h,
+        s,
+    };
     let mut out = [0u16; 1024];
+    let out = &mut out[..w];
     let mut levels = [0u16; 1024];
-    let s = k.s;
     let mut count = 0;
     for i in 0..h + s {
         count += take_row(mask, frame, z, i, s, row, &mut p[..], &mut q[..]);
-        count += columns::down(
-            &row[..],
-            i,
-            h,
-            w,
-            s,
-            &mut store[..],
-            &mut ahead[..],
-            &mut out[..],
-        );
-        give_row(work, mask, z, i, s, &out[..], &mut levels[..], apart, tops);
+        count += columns.down(row, i, out);
+        give_row(work, mask, z, i, s, out, &mut levels[..], apart, tops);
     }
     count
 }
