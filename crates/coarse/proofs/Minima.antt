@@ -33,7 +33,7 @@ ratio_most a i = go i.seen
     go false = omega arith
 
 -- the pixels from position p on: n bytes of the mask, and k of the frame
-pub part_at : (mask frame : List ℕ) (p at n k x : ℕ) → at ≡ 3 * p → x < n → 3 * n ≤ k
+part_at : (mask frame : List ℕ) (p at n k x : ℕ) → at ≡ 3 * p → x < n → 3 * n ≤ k
     → masked_at (take n (drop p mask)) (take k (drop at frame)) x ≡ masked_at mask frame (p + x)
 part_at mask frame p at n k x e h few =
     let byte : (i c : ℕ) → i < k → at + i ≡ c → get_or (take k (drop at frame)) i 0 ≡ get_or frame c 0 =
@@ -48,6 +48,12 @@ part_at mask frame p at n k x e h few =
     )
     refl
 
+-- which is the pixel x of the box's row y, where the row begins at p
+pub pixel_of : (v : View) (mask frame : List ℕ) (y p at n k x : ℕ) → p ≡ row_start v y → at ≡ 3 * p → x < n → 3 * n ≤ k
+    → masked_at (take n (drop p mask)) (take k (drop at frame)) x ≡ box_pixels v mask frame y x
+pixel_of v mask frame y p at n k x e thrice h few =
+    part_at mask frame p at n k x thrice h few ∙ ap (λ (q : ℕ). masked_at mask frame (q + x)) e ∙ shown_at v mask frame y x
+
 -- the least ratios l of row y, from position p of the frame on, each over its window along the row
 pub along_is : (v : View) (a : Rgb) (s : ℕ) (mask frame : List ℕ) (y p at n k b c : ℕ) (l m : List ℕ) → p ≡ row_start v y → at ≡ 3 * p
     → n ≡ v.wide → 3 * n ≤ k → b ≡ v.wide → c ≡ v.wide
@@ -57,11 +63,7 @@ pub along_is : (v : View) (a : Rgb) (s : ℕ) (mask frame : List ℕ) (y p at n 
 along_is v a s mask frame y p at n k b c l m e thrice wide bytes eb ec ratios mins x h =
     (rw ec at mins) x h
     ∙ windowed_cong s v.wide x (λ u. get_or l u 0) (λ u. ratio_at a (box_pixels v mask frame y u)) h
-    (λ u q.
-    ratios u (omega arith)
-    ∙ ap (ratio_at a) (part_at mask frame p at n k u thrice (omega arith) (omega arith))
-    ∙ ap (λ (n : ℕ). ratio_at a (masked_at mask frame (n + u))) e
-    ∙ ap (ratio_at a) (shown_at v mask frame y u))
+    (λ u q. ratios u (omega arith) ∙ ap (ratio_at a) (pixel_of v mask frame y p at n k u e thrice (omega arith) (omega arith)))
 
 -- the minima over the columns' windows come out for row y
 module _ (v : View) (k : Settings) (a : Rgb) (mask frame out : List ℕ) (y : ℕ) (low : y < v.tall)

@@ -90,26 +90,24 @@ fn word(low: u64, unit: u64, high: u64) -> i64
     (low + unit * high) as i64
 }
 
-// The samples of n pixels from position p of the frame on, from the least ratios d of their windows: from `to` on the word of each that has its guide g, and
-// above it g times the coarse value t, and from `two` on the word that has t, and above it g squared.
+// The samples of a row of pixels, from the least ratios d of their windows: from `to` on the word of each that has its guide g, and above it g times the
+// coarse value t, and from `two` on the word that has t, and above it g squared.
 fn sample_row(
     work: &mut [i64],
     to: usize,
     two: usize,
     mask: &[u8],
     frame: &[u8],
-    p: usize,
-    n: usize,
     omega: u64,
     d: &[u16],
 )
-    requires { (to + n ≤ two) × (two + n ≤ length work.old) × (p + n ≤ length mask.now) × (3 * (p + n) ≤ length frame.now) × (omega ≤ 10000) × (n ≤ length d.now)
-        × ((x : ℕ) → x < n → get_or d.now x 0 ≤ 10000) }
-    ensures { SamplesPut work.old work.new to two (λ x. sample_of omega (masked_at mask.now frame.now (p + x)) (get_or d.now x 0)) n }
+    requires { (to + length d.now ≤ two) × (two + length d.now ≤ length work.old) × (length mask.now ≡ length d.now) × (length frame.now ≡ 3 * length d.now) × (omega ≤ 10000)
+        × ((x : ℕ) → x < length d.now → get_or d.now x 0 ≤ 10000) }
+    ensures { SamplesPut work.old work.new to two (λ x. sample_of omega (masked_at mask.now frame.now x) (get_or d.now x 0)) (length d.now) }
 {
-    for x in 0..n {
-        let m = mask[p + x];
-        let g = guide_of(pixel_at(frame, p + x));
+    for x in 0..d.len() {
+        let m = mask[x];
+        let g = guide_of(pixel_at(frame, x));
         let t = coarse_of(omega, d[x] as u64);
         let product = word(g, 16777216, g * t);
         let square = word(t, 268435456, g * g);
@@ -130,7 +128,7 @@ fn give_row(
     d: &[u16],
 )
     requires in_plane { InPlane v × (i < v.tall + s) × (length mask.now ≡ v.w * v.h) × (length frame.now ≡ 3 * (v.w * v.h)) × (2 * (v.wide * v.tall) ≤ length work.old) × (omega ≤ 10000) }
-    requires wide_in_bounds { (v.wide ≤ length d.now) × (s ≤ i → (x : ℕ) → x < v.wide → get_or d.now x 0 ≤ 10000) }
+    requires wide_in_bounds { (length d.now ≡ v.wide) × (s ≤ i → (x : ℕ) → x < v.wide → get_or d.now x 0 ≤ 10000) }
     ensures { (l : List ℤ) (S : Plane (Shown Sample)) → SampledTo l work.old v.wide v.tall S (i - s)
         → (s ≤ i → (x : ℕ) → x < v.wide → S (i - s) x ≡ sample_of omega (box_pixels v mask.now frame.now (i - s) x) (get_or d.now x 0))
         → SampledTo l work.new v.wide v.tall S (i + 1 - s) }
@@ -139,15 +137,15 @@ fn give_row(
         return;
     }
     let y = i - s;
+    let from = row_start(v, y);
+    let to = from + v.wide;
     let at = y * v.wide;
     sample_row(
         work,
         at,
         v.wide * v.tall + at,
-        mask,
-        frame,
-        row_start(v, y),
-        v.wide,
+        &mask[from..to],
+        &frame[3 * from..3 * to],
         omega,
         d,
     );

@@ -66,7 +66,7 @@ mins c le =
 pub give_row-requires-clause-good_size : goal.give_row-requires-clause-good_size
 give_row-requires-clause-good_size c =
     let g = c.requires.0 in
-    (g.size, omega arith, omega (arith, roomy (described c.args.z), g.space), g.shown, omega arith, omega arith, omega arith)
+    (g.size, omega arith, omega (arith, roomy (described c.args.z), g.space), g.shown, search rules, omega arith, omega arith)
 
 pub give_row-requires-clause-w_in_bounds : goal.give_row-requires-clause-w_in_bounds
 give_row-requires-clause-w_in_bounds c =
