@@ -19,7 +19,9 @@ use Rattle.coarse.specs.Rows.{least_along, SampledTo}
 use Rattle.coarse.proofs.Minima.{coarse_le}
 
 -- l is the work area as it came, m as it is before row i goes down the columns, after `count` comparisons
-pub record Going (v : View) (k : Settings) (a : Rgb) (mask frame : List ℕ) (l m : List ℤ) (row p q store ahead out : List ℕ) (count i : ℕ) : Type 0 where
+pub record Going (v : View) (k : Settings) (a : Rgb) (mask frame : List ℕ) (l m : List ℤ) (store ahead : List ℕ) (h s count i : ℕ) : Type 0 where
+  pub rows : h ≡ v.tall
+  pub radius : s ≡ k.s
   pub columns : Down store ahead v.wide k.s v.tall (least_along v a k.s mask frame) i
   pub samples : SampledTo l m v.wide v.tall (sample (box_of v) k a (box_pixels v mask frame)) (i - k.s)
   pub counted : Counted k.s v.wide v.tall count i

@@ -14,7 +14,7 @@ ghost use Rattle.pixel.specs.Over.{ScaledBy};
 ghost use Rattle.columns.specs.Down.{RowIs, along_count};
 ghost use Rattle.coarse.specs.Rows.{Scaled, ratio_at, least_along, sample_of, SamplesPut, SampledTo};
 
-use columns::down;
+use columns::Columns;
 use pixel::{Scales, coarse_of, guide_of, least_ratio, light_scale, pixel_at};
 use planes::{View, row_start, seen_or};
 use rules::{Rgb, Settings};
@@ -44,14 +44,14 @@ fn scales_of(a: Rgb) -> Scales
     }
 }
 
-// The least ratios of n pixels from position p of the frame on.
-fn ratio_row(row: &mut [u16], mask: &[u8], frame: &[u8], p: usize, n: usize, a: Rgb, k: Scales)
-    requires { (n ≤ length row.old) × (p + n ≤ length mask.now) × (3 * (p + n) ≤ length frame.now) × GoodLight a × ScaledBy a k }
-    ensures { (x : ℕ) → x < n → get_or row.new x 0 ≡ ratio_at a (masked_at mask.now frame.now (p + x)) }
+// The least ratios of a row of pixels.
+fn ratio_row(row: &mut [u16], mask: &[u8], frame: &[u8], a: Rgb, k: Scales)
+    requires { (length mask.now ≡ length row.old) × (length frame.now ≡ 3 * length row.old) × GoodLight a × ScaledBy a k }
+    ensures { (x : ℕ) → x < length row.old → get_or row.new x 0 ≡ ratio_at a (masked_at mask.now frame.now x) }
 {
-    for x in 0..n {
-        let ratio = least_ratio(pixel_at(frame, p + x), a, k) as u16;
-        row[x] = seen_or(mask[p + x], ratio, 10000);
+    for x in 0..row.len() {
+        let ratio = least_ratio(pixel_at(frame, x), a, k) as u16;
+        row[x] = seen_or(mask[x], ratio, 10000);
     }
 }
 
@@ -69,15 +69,17 @@ fn take_row(
     q: &mut [u16],
 ) -> usize
     requires in_plane { InPlane v × (s ≤ 30) × (length mask.now ≡ v.w * v.h) × (length frame.now ≡ 3 * (v.w * v.h)) × GoodLight a × ScaledBy a k }
-    requires row_len { (length row.old ≡ 1024) × (length p.old ≡ 1024) × (length q.old ≡ 1024) }
+    requires row_len { (length row.old ≡ v.wide) × (length p.old ≡ 1024) × (length q.old ≡ 1024) }
     ensures mins { i < v.tall → RowIs row.new (least_along v a s mask.now frame.now) i v.wide }
     ensures count { result ≡ along_count s v.wide v.tall i }
 {
     if v.tall <= i {
         return 0;
     }
-    ratio_row(row, mask, frame, row_start(v, i), v.wide, a, k);
-    shrink(row, v.wide, s, p, q)
+    let from = row_start(v, i);
+    let to = from + v.wide;
+    ratio_row(row, &mask[from..to], &frame[3 * from..3 * to], a, k);
+    shrink(row, s, p, q)
 }
 
 // The word that has `low`, and `high` in units of `unit` above it.
@@ -88,26 +90,24 @@ fn word(low: u64, unit: u64, high: u64) -> i64
     (low + unit * high) as i64
 }
 
-// The samples of n pixels from position p of the frame on, from the least ratios d of their windows: from `to` on the word of each that has its guide g, and
-// above it g times the coarse value t, and from `two` on the word that has t, and above it g squared.
+// The samples of a row of pixels, from the least ratios d of their windows: from `to` on the word of each that has its guide g, and above it g times the
+// coarse value t, and from `two` on the word that has t, and above it g squared.
 fn sample_row(
     work: &mut [i64],
     to: usize,
     two: usize,
     mask: &[u8],
     frame: &[u8],
-    p: usize,
-    n: usize,
     omega: u64,
     d: &[u16],
 )
-    requires { (to + n ≤ two) × (two + n ≤ length work.old) × (p + n ≤ length mask.now) × (3 * (p + n) ≤ length frame.now) × (omega ≤ 10000) × (n ≤ length d.now)
-        × ((x : ℕ) → x < n → get_or d.now x 0 ≤ 10000) }
-    ensures { SamplesPut work.old work.new to two (λ x. sample_of omega (masked_at mask.now frame.now (p + x)) (get_or d.now x 0)) n }
+    requires { (to + length d.now ≤ two) × (two + length d.now ≤ length work.old) × (length mask.now ≡ length d.now) × (length frame.now ≡ 3 * length d.now) × (omega ≤ 10000)
+        × ((x : ℕ) → x < length d.now → get_or d.now x 0 ≤ 10000) }
+    ensures { SamplesPut work.old work.new to two (λ x. sample_of omega (masked_at mask.now frame.now x) (get_or d.now x 0)) (length d.now) }
 {
-    for x in 0..n {
-        let m = mask[p + x];
-        let g = guide_of(pixel_at(frame, p + x));
+    for x in 0..d.len() {
+        let m = mask[x];
+        let g = guide_of(pixel_at(frame, x));
         let t = coarse_of(omega, d[x] as u64);
         let product = word(g, 16777216, g * t);
         let square = word(t, 268435456, g * g);
@@ -128,7 +128,7 @@ fn give_row(
     d: &[u16],
 )
     requires in_plane { InPlane v × (i < v.tall + s) × (length mask.now ≡ v.w * v.h) × (length frame.now ≡ 3 * (v.w * v.h)) × (2 * (v.wide * v.tall) ≤ length work.old) × (omega ≤ 10000) }
-    requires wide_in_bounds { (v.wide ≤ length d.now) × (s ≤ i → (x : ℕ) → x < v.wide → get_or d.now x 0 ≤ 10000) }
+    requires wide_in_bounds { (length d.now ≡ v.wide) × (s ≤ i → (x : ℕ) → x < v.wide → get_or d.now x 0 ≤ 10000) }
     ensures { (l : List ℤ) (S : Plane (Shown Sample)) → SampledTo l work.old v.wide v.tall S (i - s)
         → (s ≤ i → (x : ℕ) → x < v.wide → S (i - s) x ≡ sample_of omega (box_pixels v mask.now frame.now (i - s) x) (get_or d.now x 0))
         → SampledTo l work.new v.wide v.tall S (i + 1 - s) }
@@ -137,15 +137,15 @@ fn give_row(
         return;
     }
     let y = i - s;
+    let from = row_start(v, y);
+    let to = from + v.wide;
     let at = y * v.wide;
     sample_row(
         work,
         at,
         v.wide * v.tall + at,
-        mask,
-        frame,
-        row_start(v, y),
-        v.wide,
+        &mask[from..to],
+        &frame[3 * from..3 * to],
         omega,
         d,
     );
@@ -160,41 +160,27 @@ pub fn prepare(work: &mut [i64], mask: &[u8], frame: &[u8], v: View, k: Settings
     ensures rest { SameFrom work.old work.new (2 * (v.wide * v.tall)) }
     ensures count { result ≡ frame_comparisons (box_of v) k.s }
 {
-    let mut row = [0u16; 1024];
-    let mut p = [0u16; 1024];
-    let mut q = [0u16; 1024];
-    let mut store = [0u16; 62464];
-    let mut ahead = [0u16; 1024];
-    let mut out = [0u16; 1024];
-    let by = scales_of(a);
     let w = v.wide;
     let h = v.tall;
     let s = k.s;
+    let mut row = [0u16; 1024];
+    let row = &mut row[..w];
+    let mut p = [0u16; 1024];
+    let mut q = [0u16; 1024];
+    let mut columns = Columns {
+        store: [0u16; 62464],
+        ahead: [0u16; 1024],
+        h,
+        s,
+    };
+    let mut out = [0u16; 1024];
+    let out = &mut out[..w];
+    let by = scales_of(a);
     let mut count = 0;
     for i in 0..h + s {
-        count += take_row(
-            mask,
-            frame,
-            v,
-            i,
-            s,
-            a,
-            by,
-            &mut row[..],
-            &mut p[..],
-            &mut q[..],
-        );
-        count += down(
-            &row[..],
-            i,
-            h,
-            w,
-            s,
-            &mut store[..],
-            &mut ahead[..],
-            &mut out[..],
-        );
-        give_row(work, mask, frame, v, i, s, k.omega, &out[..]);
+        count += take_row(mask, frame, v, i, s, a, by, row, &mut p[..], &mut q[..]);
+        count += columns.down(row, i, out);
+        give_row(work, mask, frame, v, i, s, k.omega, out);
     }
     count
 }

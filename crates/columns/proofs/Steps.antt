@@ -188,8 +188,8 @@ module _ (row store ahead ahead' out mid store' : List ℕ) (v h n k j a b c : �
   amid : (f : Plane ℕ) → Open store ahead n k f v → RowIs row f v n → Amid mid ahead' n k f v
   amid f t r = stored f n k v some row store ahead t r mid ahead' j e (fore_is f t r) d
 
-  pub taken : a ≡ n * min j 1 → Taken row store ahead store' ahead' out v h n k (a + b + c)
-  taken ea =
+  pub taken : (r : ℕ) → r ≡ a + b + c → a ≡ n * min j 1 → Taken row store ahead store' ahead' out v h n k r
+  taken r er ea =
       record {
         going = λ f t r l.
             ⊎_elim
@@ -203,7 +203,7 @@ module _ (row store ahead ahead' out mid store' : List ℕ) (v h n k j a b c : �
         count =
             let p = mul-add n (joins k v) (meets k (v + 1 - k) v) in
             let q = mul-add n (joins k v + meets k (v + 1 - k) v) (folds k h v) in
-            rw (q, p, ea, joins_is k v j some e, meets_is k v j some e store ahead' out n b g, folds_is k v j some e mid store' h n c vh w);
+            rw (er, q, p, ea, joins_is k v j some e, meets_is k v j some e store ahead' out n b g, folds_is k v j some e mid store' h n c vh w);
       }
 
 -- ---- a step without one, where the window lies in two blocks

@@ -59,7 +59,7 @@ module _ (l : List ℕ) (n last : ℕ) where
       }
 
 -- a row is copied to a
-pub laid_copy : (m row w : List ℕ) (a k n : ℕ) → w ≡ take n row → k ≡ n → a + n ≤ length m → n ≤ length row → Laid (entry row) m (put_mid a k m w) a n
+pub laid_copy : (m row w : List ℕ) (a k n : ℕ) → w ≡ row → k ≡ n → a + n ≤ length m → n ≡ length row → Laid (entry row) m (put_mid a k m w) a n
 laid_copy m row w a k n ew kn am rn =
     record {
       is = λ i x y. rw ew (search (rules, places));

@@ -9,6 +9,16 @@ ghost use Rattle.columns.specs.Down.{RowIs, Down, Folded, Given, Closed, Taken, 
 
 use windows::last_block;
 
+// h rows that go down the columns one at a time, where the columns' windows have radius s: the rows of one block, each behind the one before it, and the least of
+// the block so far. What both hold before the first row does not matter.
+#[derive(Drop)]
+pub struct Columns {
+    pub store: [u16; 62464],
+    pub ahead: [u16; 1024],
+    pub h: usize,
+    pub s: usize,
+}
+
 // Each entry becomes the lesser of it and the row's. Returns the number of comparisons.
 fn extend(least: &mut [u16], row: &[u16]) -> usize
     requires { length least.old ≡ length row.now }
@@ -49,131 +59,97 @@ fn fold(store: &mut [u16], last: usize, n: usize) -> usize
 }
 
 // The row, j-th of its block, is joined to the least of those before it in the block. Returns the number of comparisons.
-fn join(ahead: &mut [u16], row: &[u16], n: usize, j: usize) -> usize
-    requires { (n ≤ length ahead.old) × (n ≤ length row.now) }
-    ensures { (result ≡ n * min j 1) × ((x : ℕ) → x < n → j ≡ 0 → entry ahead.new x ≡ entry row.now x)
-        × ((x : ℕ) → x < n → 0 < j → entry ahead.new x ≡ min (entry ahead.old x) (entry row.now x)) }
+fn join(ahead: &mut [u16], row: &[u16], j: usize) -> usize
+    requires { length ahead.old ≡ length row.now }
+    ensures { (result ≡ length row.now * min j 1) × ((x : ℕ) → x < length row.now → j ≡ 0 → entry ahead.new x ≡ entry row.now x)
+        × ((x : ℕ) → x < length row.now → 0 < j → entry ahead.new x ≡ min (entry ahead.old x) (entry row.now x)) }
 {
     if j == 0 {
-        ahead[..n].copy_from_slice(&row[..n]);
+        ahead.copy_from_slice(row);
         return 0;
     }
-    extend(&mut ahead[..n], &row[..n])
+    extend(ahead, row)
 }
 
-// The least over the k rows up to row v, j-th of its block, or over all where they are fewer. Returns the number of comparisons.
-fn give(
-    v: usize,
-    j: usize,
-    k: usize,
-    n: usize,
-    store: &[u16],
-    ahead: &[u16],
-    out: &mut [u16],
-) -> usize
-    requires { (j < k) × (k ≤ 61) × (n ≤ 1024) × (k * n ≤ length store.now) × (n ≤ length ahead.now) × (n ≤ length out.old) }
-    ensures { Given store.now ahead.now out.new v j k n result }
-{
-    if v < k {
-        out[..n].copy_from_slice(&ahead[..n]);
-        return 0;
+impl Columns {
+    // The rows of a block.
+    fn block(&self) -> usize
+        requires { self.now.s ≤ 30 }
+        ensures { result ≡ 2 * self.now.s + 1 }
+    {
+        2 * self.s + 1
     }
-    if j + 1 == k {
-        out[..n].copy_from_slice(&ahead[..n]);
-        return 0;
-    }
-    let next = (j + 1) * n;
-    both(&mut out[..n], &store[next..next + n], &ahead[..n])
-}
 
-// The block's rows are folded where row v, the j-th, is its last. Returns the number of comparisons.
-fn close(v: usize, h: usize, j: usize, k: usize, n: usize, store: &mut [u16]) -> usize
-    requires { (v < h) × (h ≤ 1024) × (j < k) × (k ≤ 61) × (n ≤ 1024) × (k * n ≤ length store.old) }
-    ensures { Closed store.old store.new v h j k n result }
-{
-    if j + 1 == k {
-        return fold(store, j, n);
+    // The least over the rows of as many as a block up to row v, j-th of its block, or over all where they are fewer. Returns the number of comparisons.
+    fn give(&self, v: usize, j: usize, out: &mut [u16]) -> usize
+        requires { (self.now.s ≤ 30) × (j < 2 * self.now.s + 1) × (length out.old ≤ 1024) }
+        ensures { Given self.now.store self.now.ahead out.new v j (2 * self.now.s + 1) (length out.old) result }
+    {
+        let n = out.len();
+        let k = self.block();
+        if v < k || j + 1 == k {
+            out.copy_from_slice(&self.ahead[..n]);
+            return 0;
+        }
+        let next = (j + 1) * n;
+        both(out, &self.store[next..next + n], &self.ahead[..n])
     }
-    if v + 1 == h {
-        return fold(store, j, n);
-    }
-    0
-}
 
-// Row v comes: it is joined to its block, the least over the k rows up to it come out, it is stored, and a whole block is folded.
-// Returns the number of comparisons.
-fn take(
-    row: &[u16],
-    v: usize,
-    h: usize,
-    n: usize,
-    k: usize,
-    store: &mut [u16],
-    ahead: &mut [u16],
-    out: &mut [u16],
-) -> usize
-    requires { (v < h) × (h ≤ 1024) × (0 < k) × (k ≤ 61) × (n ≤ 1024) × (n ≤ length row.now) × (k * n ≤ length store.old) × (n ≤ length ahead.old)
-        × (n ≤ length out.old) }
-    ensures { Taken row.now store.old ahead.old store.new ahead.new out.new v h n k result }
-{
-    let j = v % k;
-    let a = join(ahead, row, n, j);
-    let b = give(v, j, k, n, store, ahead, out);
-    store[j * n..j * n + n].copy_from_slice(&row[..n]);
-    let c = close(v, h, j, k, n, store);
-    a + b + c
-}
+    // Row v comes: it is joined to its block, the least over the rows up to it comes out, it is stored, and a whole block is folded.
+    // Returns the number of comparisons.
+    fn take(&mut self, row: &[u16], v: usize, out: &mut [u16]) -> usize
+        requires { (v < self.old.h) × (self.old.h ≤ 1024) × (self.old.s ≤ 30) × (length row.now ≤ 1024) × (length out.old ≡ length row.now) }
+        ensures taken { Taken row.now self.old.store self.old.ahead self.new.store self.new.ahead out.new v self.old.h (length row.now) (2 * self.old.s + 1) result }
+        ensures kept { (self.new.h ≡ self.old.h) × (self.new.s ≡ self.old.s) }
+    {
+        let n = row.len();
+        let k = self.block();
+        let j = v % k;
+        let a = join(&mut self.ahead[..n], row, j);
+        let b = self.give(v, j, out);
+        self.store[j * n..j * n + n].copy_from_slice(row);
+        if j + 1 < k && v + 1 < self.h {
+            return a + b;
+        }
+        a + b + fold(&mut self.store[..], j, n)
+    }
 
-// After the last row: the least over the rows from a on. Returns the number of comparisons.
-fn rest(
-    a: usize,
-    h: usize,
-    n: usize,
-    k: usize,
-    store: &[u16],
-    ahead: &[u16],
-    out: &mut [u16],
-) -> usize
-    requires { (a < h) × (h ≤ a + k) × (h ≤ 1024) × (k ≤ 61) × (n ≤ 1024) × (k * n ≤ length store.now) × (n ≤ length ahead.now) × (n ≤ length out.old) }
-    ensures { Rested store.now ahead.now out.new a h n k result }
-{
-    let c = last_block(h, k);
-    if a == c {
-        out[..n].copy_from_slice(&ahead[..n]);
-        return 0;
+    // After the last row: the least over the rows from a on. Returns the number of comparisons.
+    fn rest(&self, a: usize, out: &mut [u16]) -> usize
+        requires { (a < self.now.h) × (self.now.h ≤ a + 2 * self.now.s + 1) × (self.now.h ≤ 1024) × (self.now.s ≤ 30) × (length out.old ≤ 1024) }
+        ensures { Rested self.now.store self.now.ahead out.new a self.now.h (length out.old) (2 * self.now.s + 1) result }
+    {
+        let n = out.len();
+        let k = self.block();
+        let c = last_block(self.h, k);
+        if a == c {
+            out.copy_from_slice(&self.ahead[..n]);
+            return 0;
+        }
+        if c < a {
+            let at = (a - c) * n;
+            out.copy_from_slice(&self.store[at..at + n]);
+            return 0;
+        }
+        let at = (a + k - c) * n;
+        both(out, &self.store[at..at + n], &self.ahead[..n])
     }
-    if c < a {
-        let at = (a - c) * n;
-        out[..n].copy_from_slice(&store[at..at + n]);
-        return 0;
-    }
-    let at = (a + k - c) * n;
-    both(&mut out[..n], &store[at..at + n], &ahead[..n])
-}
 
-// Step v of h + s: row v of h goes down the n columns while there is one, and from step s on the least over the columns' windows of radius s about row
-// v - s come out. `store` and `ahead` are kept from step to step. Returns the number of comparisons.
-pub fn down(
-    row: &[u16],
-    v: usize,
-    h: usize,
-    n: usize,
-    s: usize,
-    store: &mut [u16],
-    ahead: &mut [u16],
-    out: &mut [u16],
-) -> usize
-    requires s_bound { (s ≤ 30) × (0 < h) × (h ≤ 1024) × (0 < n) × (n ≤ 1024) × (v < h + s) }
-    requires n_in_bounds { (n ≤ length row.now) × ((2 * s + 1) * n ≤ length store.old) × (n ≤ length ahead.old) × (n ≤ length out.old) }
-    ensures state { (f : Plane ℕ) → Down store.old ahead.old n s h f v → (v < h → RowIs row.now f v n)
-        → Down store.new ahead.new n s h f (v + 1) }
-    ensures mins { (f : Plane ℕ) → Down store.old ahead.old n s h f v → (v < h → RowIs row.now f v n)
-        → s ≤ v → RowIs out.new (λ y x. windowed min (λ u. f u x) s h y) (v - s) n }
-    ensures count { result ≡ n * down_count s h v }
-{
-    let k = 2 * s + 1;
-    if v < h {
-        return take(row, v, h, n, k, store, ahead, out);
+    // Step v of h + s: row v goes down the columns while there is one, and from step s on the least over the columns' windows about row v - s come out.
+    // Returns the number of comparisons.
+    pub fn down(&mut self, row: &[u16], v: usize, out: &mut [u16]) -> usize
+        requires s_bound { (self.old.s ≤ 30) × (0 < self.old.h) × (self.old.h ≤ 1024) × (v < self.old.h + self.old.s) }
+        requires n_in_bounds { (0 < length row.now) × (length row.now ≤ 1024) × (length out.old ≡ length row.now) }
+        ensures state { (f : Plane ℕ) → Down self.old.store self.old.ahead (length row.now) self.old.s self.old.h f v → (v < self.old.h → RowIs row.now f v (length row.now))
+            → Down self.new.store self.new.ahead (length row.now) self.old.s self.old.h f (v + 1) }
+        ensures kept { (self.new.h ≡ self.old.h) × (self.new.s ≡ self.old.s) }
+        ensures mins { (f : Plane ℕ) → Down self.old.store self.old.ahead (length row.now) self.old.s self.old.h f v → (v < self.old.h → RowIs row.now f v (length row.now))
+            → self.old.s ≤ v → RowIs out.new (λ y x. windowed min (λ u. f u x) self.old.s self.old.h y) (v - self.old.s) (length row.now) }
+        ensures count { result ≡ length row.now * down_count self.old.s self.old.h v }
+    {
+        if v < self.h {
+            return self.take(row, v, out);
+        }
+        self.rest(v.saturating_sub(2 * self.s), out)
     }
-    rest(v.saturating_sub(2 * s), h, n, k, store, ahead, out)
 }

@@ -5,7 +5,8 @@ use mathlib.Core.List.{List, [], ◌∷◌}
 use Prim.Native.Nat.{ℕ, ◌+◌, ◌*◌, ◌/◌, ◌%◌, ◌≤◌, ◌<◌, min}
 use native.Mathlib.Omega.{arith}
 use lib.Dec.{eqb}
-use lib.ListN.{get_or}
+use lib.ListN.{get_or, take, drop}
+use Rattle.std.proofs.lemmas.List.{get_or-take, get_or-drop}
 use Rattle.rules.specs.Shape.{Shape}
 use Rattle.rules.specs.Window.{Plane, alike, least, window}
 use Rattle.rules.specs.Light.{darkest, dark, at}
@@ -46,16 +47,35 @@ module _ (z : Shape) (s : ℕ) (mask frame : List ℕ) where
   pub level_le : (p : ℕ) → level_at z s mask frame p ≤ 256
   level_le p = level_by_le (get_or mask p 0) _ (dark_le p)
 
+-- the pixels from position p on: n bytes of the mask, and k of the frame
+part_at : (mask frame : List ℕ) (p at n k x : ℕ) → at ≡ 3 * p → x < n → 3 * n ≤ k
+    → least_by (get_or (take n (drop p mask)) x 0) (darkest (pixel_at (take k (drop at frame)) x)) ≡ least_by (get_or mask (p + x) 0) (darkest (pixel_at frame (p + x)))
+part_at mask frame p at n k x e h few =
+    let byte : (i c : ℕ) → i < k → at + i ≡ c → get_or (take k (drop at frame)) i 0 ≡ get_or frame c 0 =
+    λ i c l z. get_or-take k (drop at frame) i 0 l ∙ get_or-drop at frame i 0 ∙ ap (λ (j : ℕ). get_or frame j 0) z
+    in
+    rw (
+      get_or-take n (drop p mask) x 0 h,
+      get_or-drop p mask x 0,
+      byte (3 * x) (3 * (p + x)) (omega arith) (omega arith),
+      byte (3 * x + 1) (3 * (p + x) + 1) (omega arith) (omega arith),
+      byte (3 * x + 2) (3 * (p + x) + 2) (omega arith) (omega arith),
+    )
+    refl
+
 -- the least bytes l of row y, each over its window along the row
-pub along_is : (z : Shape) (s : ℕ) (mask frame : List ℕ) (y : ℕ) (l m : List ℕ)
-    → ((x : ℕ) → x < z.w → get_or l x 0 ≡ least_by (get_or mask (y * z.w + x) 0) (darkest (pixel_at frame (y * z.w + x))))
-    → ((x : ℕ) → x < z.w → get_or m x 0 ≡ windowed min (λ u. get_or l u 0) s z.w x)
+pub along_is : (z : Shape) (s : ℕ) (mask frame : List ℕ) (y at n k b c : ℕ) (l m : List ℕ) → at ≡ 3 * (y * z.w) → n ≡ z.w → 3 * n ≤ k → b ≡ z.w → c ≡ z.w
+    → ((x : ℕ) → x < b → get_or l x 0 ≡ least_by (get_or (take n (drop (y * z.w) mask)) x 0) (darkest (pixel_at (take k (drop at frame)) x)))
+    → ((x : ℕ) → x < c → get_or m x 0 ≡ windowed min (λ u. get_or l u 0) s c x)
     → RowIs m (least_along z s mask frame) y z.w
 unfolding pixels seen_in
-along_is z s mask frame y l m bytes mins x h =
-    mins x h
+along_is z s mask frame y at n k b c l m thrice wide few eb ec bytes mins x h =
+    (rw ec at mins) x h
     ∙ windowed_cong s z.w x (λ u. get_or l u 0) (λ u. cond (seen_in z mask y u) (darkest (pixels z frame y u)) 255) h
-    (λ u q. bytes u q ∙ cond_not (eqb (get_or mask (y * z.w + u) 0) 0) 255 (darkest (pixel_at frame (y * z.w + u))))
+    (λ u q.
+    bytes u (omega arith)
+    ∙ part_at mask frame (y * z.w) at n k u thrice (omega arith) (omega arith)
+    ∙ cond_not (eqb (get_or mask (y * z.w + u) 0) 0) 255 (darkest (pixel_at frame (y * z.w + u))))
 
 module _ (z : Shape) (s : ℕ) (mask frame : List ℕ) (byte : (i : ℕ) → get_or frame i 0 ≤ 255) where
   -- the least byte of a pixel, 255 of a hidden one

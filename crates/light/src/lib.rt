@@ -49,14 +49,14 @@ fn colour(frame: &[u8], p: usize) -> Rgb
     Rgb { r, g, b }
 }
 
-// The least bytes of n pixels from position p of the frame on. A hidden pixel has 255, which lowers no minimum.
-fn least_row(row: &mut [u16], mask: &[u8], frame: &[u8], p: usize, n: usize)
-    requires { (n ≤ length row.old) × (p + n ≤ length mask.now) × (3 * (p + n) ≤ length frame.now) }
-    ensures { (x : ℕ) → x < n → get_or row.new x 0 ≡ least_by (get_or mask.now (p + x) 0) (darkest (pixel_at frame.now (p + x))) }
+// The least bytes of a row of pixels. A hidden pixel has 255, which lowers no minimum.
+fn least_row(row: &mut [u16], mask: &[u8], frame: &[u8])
+    requires { (length mask.now ≡ length row.old) × (length frame.now ≡ 3 * length row.old) }
+    ensures { (x : ℕ) → x < length row.old → get_or row.new x 0 ≡ least_by (get_or mask.now x 0) (darkest (pixel_at frame.now x)) }
 {
-    for x in 0..n {
-        let least = pixel::darkest_of(pixel::pixel_at(frame, p + x)) as u16;
-        row[x] = planes::seen_or(mask[p + x], least, 255);
+    for x in 0..row.len() {
+        let least = pixel::darkest_of(pixel::pixel_at(frame, x)) as u16;
+        row[x] = planes::seen_or(mask[x], least, 255);
     }
 }
 
@@ -72,7 +72,7 @@ fn take_row(
     q: &mut [u16],
 ) -> usize
     requires good_size { GoodSize (described z) × (s ≤ 30) × (length mask.now ≡ z.w * z.h) × (length frame.now ≡ 3 * (z.w * z.h)) }
-    requires row_len { (length row.old ≡ 1024) × (length p.old ≡ 1024) × (length q.old ≡ 1024) }
+    requires row_len { (length row.old ≡ z.w) × (length p.old ≡ 1024) × (length q.old ≡ 1024) }
     ensures mins { i < z.h → RowIs row.new (least_along (described z) s mask.now frame.now) i z.w }
     ensures count { result ≡ along_count s z.w z.h i }
 {
@@ -81,50 +81,51 @@ fn take_row(
     if h <= i {
         return 0;
     }
-    least_row(row, mask, frame, i * w, w);
-    windows::shrink(row, w, s, p, q)
+    let from = i * w;
+    let to = from + w;
+    least_row(row, &mask[from..to], &frame[3 * from..3 * to]);
+    windows::shrink(row, s, p, q)
 }
 
-// The levels of n pixels from position p of the frame on, from their dark values d.
-fn level_row(levels: &mut [u16], mask: &[u8], p: usize, n: usize, d: &[u16])
-    requires { (n ≤ length levels.old) × (p + n ≤ length mask.now) × (n ≤ length d.now) × ((x : ℕ) → x < n → get_or d.now x 0 ≤ 255) }
-    ensures { (x : ℕ) → x < n → get_or levels.new x 0 ≡ level_by (get_or mask.now (p + x) 0) (get_or d.now x 0) }
+// The levels of a row of pixels, from their dark values d.
+fn level_row(levels: &mut [u16], mask: &[u8], d: &[u16])
+    requires { (length mask.now ≡ length levels.old) × (length d.now ≡ length levels.old) × ((x : ℕ) → x < length d.now → get_or d.now x 0 ≤ 255) }
+    ensures { (x : ℕ) → x < length levels.old → get_or levels.new x 0 ≡ level_by (get_or mask.now x 0) (get_or d.now x 0) }
 {
-    for x in 0..n {
-        levels[x] = planes::seen_or(mask[p + x], d[x] + 1, 0);
+    for x in 0..levels.len() {
+        levels[x] = planes::seen_or(mask[x], d[x] + 1, 0);
     }
 }
 
-// The levels d of n pixels go to the work area, from `to` on.
-fn store_row(work: &mut [i64], to: usize, n: usize, d: &[u16])
-    requires { (to + n ≤ length work.old) × (n ≤ length d.now) }
-    ensures { RowPut work.old work.new to (λ x. get_or d.now x 0) n }
+// A row's levels d go to the work area, from `to` on.
+fn store_row(work: &mut [i64], to: usize, d: &[u16])
+    requires { to + length d.now ≤ length work.old }
+    ensures { RowPut work.old work.new to (λ x. get_or d.now x 0) (length d.now) }
 {
-    for x in 0..n {
+    for x in 0..d.len() {
         work[to + x] = d[x] as i64;
     }
 }
 
-// The levels d of the n positions from `first` on are counted. Each level has four lanes, and neighbours are counted in different ones, so that
+// A row's levels d, of the positions from `first` on, are counted. Each level has four lanes, and neighbours are counted in different ones, so that
 // equal neighbours do not wait for each other.
-fn tally_row(d: &[u16], first: usize, n: usize, apart: &mut [u32])
-    requires { (n ≤ length d.now) × (first + n ≤ 262144) × ((x : ℕ) → x < n → get_or d.now x 0 ≤ 256) × (length apart.old ≡ 1028) × Below first apart.old }
-    ensures { (D : ℕ → ℕ) → Starts (hits (lane D) first) 1028 apart.old → ((x : ℕ) → x < n → get_or d.now x 0 ≡ D (first + x))
-        → Starts (hits (lane D) (first + n)) 1028 apart.new }
+fn tally_row(d: &[u16], first: usize, apart: &mut [u32])
+    requires { (first + length d.now ≤ 262144) × ((x : ℕ) → x < length d.now → get_or d.now x 0 ≤ 256) × (length apart.old ≡ 1028) × Below first apart.old }
+    ensures { (D : ℕ → ℕ) → Starts (hits (lane D) first) 1028 apart.old → ((x : ℕ) → x < length d.now → get_or d.now x 0 ≡ D (first + x))
+        → Starts (hits (lane D) (first + length d.now)) 1028 apart.new }
 {
-    for x in 0..n {
+    for x in 0..d.len() {
         let i = 4 * (d[x] as usize) + (first + x) % 4;
         apart[i] += 1;
     }
 }
 
-// The greatest of the first n.
-fn greatest(d: &[u16], n: usize) -> u16
-    requires { n ≤ length d.now }
-    ensures { (x : ℕ) → x < n → get_or d.now x 0 ≤ result }
+// The greatest level.
+fn greatest(d: &[u16]) -> u16
+    ensures { (x : ℕ) → x < length d.now → get_or d.now x 0 ≤ result }
 {
     let mut greatest = 0u16;
-    for level in &d[..n] {
+    for level in d {
         greatest = greatest.max(*level);
     }
     greatest
@@ -142,8 +143,8 @@ fn give_row(
     apart: &mut [u32],
     tops: &mut [u16],
 )
-    requires good_size { GoodSize (described z) × (i < z.h + s) × (z.w * z.h ≤ length work.old) × (length mask.now ≡ z.w * z.h) × (length levels.old ≡ 1024) × (length apart.old ≡ 1028) × (length tops.old ≡ 1024) }
-    requires w_in_bounds { (z.w ≤ length d.now) × (s ≤ i → (x : ℕ) → x < z.w → get_or d.now x 0 ≤ 255) × Below ((i - s) * z.w) apart.old }
+    requires good_size { GoodSize (described z) × (i < z.h + s) × (z.w * z.h ≤ length work.old) × (length mask.now ≡ z.w * z.h) × (length levels.old ≡ z.w) × (length apart.old ≡ 1028) × (length tops.old ≡ 1024) }
+    requires w_in_bounds { (length d.now ≡ z.w) × (s ≤ i → (x : ℕ) → x < z.w → get_or d.now x 0 ≤ 255) × Below ((i - s) * z.w) apart.old }
     ensures { (D : ℕ → ℕ) (l : List ℤ) → DarkTo (described z) D l work.old apart.old tops.old (i - s)
         → (s ≤ i → (x : ℕ) → x < z.w → level_by (get_or mask.now ((i - s) * z.w + x) 0) (get_or d.now x 0) ≡ D ((i - s) * z.w + x))
         → DarkTo (described z) D l work.new apart.new tops.new (i + 1 - s) }
@@ -154,10 +155,10 @@ fn give_row(
     let w = z.w;
     let y = i - s;
     let first = y * w;
-    level_row(levels, mask, first, w, d);
-    store_row(work, first, w, levels);
-    tally_row(levels, first, w, apart);
-    tops[y] = greatest(levels, w);
+    level_row(levels, &mask[first..first + w], d);
+    store_row(work, first, levels);
+    tally_row(levels, first, apart);
+    tops[y] = greatest(levels);
 }
 
 // The level of each pixel, at the work area's start, with the counts in their lanes, all 0 before, and a bound of each row. Returns the number of comparisons
@@ -176,30 +177,28 @@ fn darks(
     ensures rest { SameFrom work.old work.new (z.w * z.h) }
     ensures count { result ≡ frame_comparisons (described z) k.s }
 {
-    let mut row = [0u16; 1024];
-    let mut p = [0u16; 1024];
-    let mut q = [0u16; 1024];
-    let mut store = [0u16; 62464];
-    let mut ahead = [0u16; 1024];
-    let mut out = [0u16; 1024];
-    let mut levels = [0u16; 1024];
     let w = z.w;
     let h = z.h;
     let s = k.s;
+    let mut row = [0u16; 1024];
+    let row = &mut row[..w];
+    let mut p = [0u16; 1024];
+    let mut q = [0u16; 1024];
+    let mut columns = columns::Columns {
+        store: [0u16; 62464],
+        ahead: [0u16; 1024],
+        h,
+        s,
+    };
+    let mut out = [0u16; 1024];
+    let out = &mut out[..w];
+    let mut levels = [0u16; 1024];
+    let levels = &mut levels[..w];
     let mut count = 0;
     for i in 0..h + s {
-        count += take_row(mask, frame, z, i, s, &mut row[..], &mut p[..], &mut q[..]);
-        count += columns::down(
-            &row[..],
-            i,
-            h,
-            w,
-            s,
-            &mut store[..],
-            &mut ahead[..],
-            &mut out[..],
-        );
-        give_row(work, mask, z, i, s, &out[..], &mut levels[..], apart, tops);
+        count += take_row(mask, frame, z, i, s, row, &mut p[..], &mut q[..]);
+        count += columns.down(row, i, out);
+        give_row(work, mask, z, i, s, out, levels, apart, tops);
     }
     count
 }

@@ -95,8 +95,11 @@ module _ (l p q : List ℕ) (s m : ℕ) where
       let z : min 0 m + s ≡ s = omega arith in
       record { size = refl; begin = start_zero (2 * s + 1) (omega arith); met_to = rw z (met_none l p q (m + 2 * s) s s) }
 
-  pub whole_done : (u : List ℕ) (a r : ℕ) → m ≤ a → WholeTo l u p q s m a r → Met l u p q (m + 2 * s) s s (m + s) r
-  whole_done u a r h t = let z : min a m + s ≡ m + s = omega arith in rw z at t.met_to
+  pub whole_done : (u : List ℕ) (n a r : ℕ) → n ≡ m + 2 * s → m ≤ a → WholeTo l u p q s m a r → Met l u p q n s s (n - s) r
+  whole_done u n a r e h t =
+      let z : min a m + s ≡ n - s = omega arith in
+      let y : m + 2 * s ≡ n = omega arith in
+      rw (z, y) at t.met_to
 
   pub whole_more : (u v : List ℕ) (a count some r : ℕ) → WholeTo l u p q s m a count → a < m → m + 2 * s ≤ length u → some ≡ min (m - a - 1) (2 * s)
       → length v ≡ length u → r ≡ count + some
@@ -144,13 +147,12 @@ module _ (l m p q : List ℕ) (n s r₂ : ℕ) (fores : (i : ℕ) → i < n → 
   row_count r₁ e = rw (samples_length n) (omega (arith, b.count))
 
 -- the windows cut off at the line's start, the whole ones, and those cut off at its end
-pub meet_done : (l u v w p q : List ℕ) (n s r₁ r₂ r₃ : ℕ) → 2 * s < n → Met l u p q n s 0 s r₁ → Met u v p q (n - 2 * s + 2 * s) s s (n - 2 * s + s) r₂
-    → Met v w p q n s (n - s) n r₃ → Met l w p q n s 0 n (r₁ + r₂ + r₃)
-meet_done l u v w p q n s r₁ r₂ r₃ h a b c =
-    let z : n - 2 * s + 2 * s ≡ n = omega arith in
-    let y : n - 2 * s + s ≡ n - s = omega arith in
-    let b' : Met u v p q n s s (n - s) r₂ = rw (z, y) at b in
-    met_on l p q n s v w 0 (n - s) n (r₁ + r₂) r₃ (met_on l p q n s u v 0 s (n - s) r₁ r₂ a b' (omega arith) (omega arith)) c (omega arith) (omega arith)
+pub meet_done : (l u v w p q : List ℕ) (n s r₁ r₂ r₃ : ℕ) → 2 * s < n → length u ≡ n → length v ≡ n → Met l u p q n s 0 s r₁
+    → Met u v p q (length u) s s (length u - s) r₂ → Met v w p q (length v) s (n - s) n r₃ → Met l w p q n s 0 n (r₁ + r₂ + r₃)
+meet_done l u v w p q n s r₁ r₂ r₃ h eu ev a b c =
+    let b' : Met u v p q n s s (n - s) r₂ = rw eu at b in
+    let c' : Met v w p q n s (n - s) n r₃ = rw ev at c in
+    met_on l p q n s v w 0 (n - s) n (r₁ + r₂) r₃ (met_on l p q n s u v 0 s (n - s) r₁ r₂ a b' (omega arith) (omega arith)) c' (omega arith) (omega arith)
 
 -- ---- a radius of 0
 pub zero_mins : (f : ℕ → ℕ) (n x : ℕ) → x < n → f x ≡ windowed min f 0 n x

@@ -61,11 +61,12 @@ fn behind(line: &[u16], first: usize, end: usize, q: &mut [u16]) -> usize
 
 // The minima of a line's blocks of k: in p from the block's start to each sample, in q from each sample to the block's end.
 // Returns the number of comparisons.
-fn halves(line: &[u16], n: usize, k: usize, p: &mut [u16], q: &mut [u16]) -> usize
-    requires { (0 < k) × (k ≤ 61) × (n ≤ 1024) × (n ≤ length line.now) × (n ≤ length p.old) × (n ≤ length q.old) }
-    ensures { (result ≡ in_blocks k (samples n)) × ((i : ℕ) → i < n → entry p.new i ≡ fore line.now k i)
-        × ((i : ℕ) → i < n → entry q.new i ≡ aft line.now k n i) }
+fn halves(line: &[u16], k: usize, p: &mut [u16], q: &mut [u16]) -> usize
+    requires { (0 < k) × (k ≤ 61) × (length line.now ≤ 1024) × (length line.now ≤ length p.old) × (length line.now ≤ length q.old) }
+    ensures { (result ≡ in_blocks k (samples (length line.now))) × ((i : ℕ) → i < length line.now → entry p.new i ≡ fore line.now k i)
+        × ((i : ℕ) → i < length line.now → entry q.new i ≡ aft line.now k (length line.now) i) }
 {
+    let n = line.len();
     let mut count = 0;
     for first in (0..n).step_by(k) {
         let end = (first + k).min(n);
@@ -109,19 +110,12 @@ fn pick(x: u16, y: u16, a: usize, c: usize) -> Least
 }
 
 // The windows from `from` to before `end`, which are cut off at the line's ends. Returns the number of comparisons.
-fn meet_cut(
-    line: &mut [u16],
-    n: usize,
-    s: usize,
-    p: &[u16],
-    q: &[u16],
-    from: usize,
-    end: usize,
-) -> usize
-    requires { (s ≤ 30) × (0 < n) × (n ≤ 1024) × (n ≤ length line.old) × (n ≤ length p.now) × (n ≤ length q.now) × (from ≤ end) × (end ≤ n)
-        × ((i : ℕ) → from ≤ i → i < end → s ≤ i → n ≤ i + s) }
-    ensures { Met line.old line.new p.now q.now n s from end result }
+fn meet_cut(line: &mut [u16], s: usize, p: &[u16], q: &[u16], from: usize, end: usize) -> usize
+    requires { (s ≤ 30) × (0 < length line.old) × (length line.old ≤ 1024) × (length line.old ≤ length p.now) × (length line.old ≤ length q.now)
+        × (from ≤ end) × (end ≤ length line.old) × ((i : ℕ) → from ≤ i → i < end → s ≤ i → length line.old ≤ i + s) }
+    ensures { Met line.old line.new p.now q.now (length line.old) s from end result }
 {
+    let n = line.len();
     let c = last_block(n, 2 * s + 1);
     let mut count = 0;
     for i in from..end {
@@ -146,11 +140,12 @@ fn join_run(line: &mut [u16], s: usize, a: usize, m: usize, p: &[u16], q: &[u16]
     count
 }
 
-// The m whole windows. Returns the number of comparisons.
-fn meet_whole(line: &mut [u16], s: usize, m: usize, p: &[u16], q: &[u16]) -> usize
-    requires { (s ≤ 30) × (m + 2 * s ≤ 1024) × (m + 2 * s ≤ length line.old) × (m + 2 * s ≤ length p.now) × (m + 2 * s ≤ length q.now) }
-    ensures { Met line.old line.new p.now q.now (m + 2 * s) s s (m + s) result }
+// The whole windows. Returns the number of comparisons.
+fn meet_whole(line: &mut [u16], s: usize, p: &[u16], q: &[u16]) -> usize
+    requires { (s ≤ 30) × (2 * s < length line.old) × (length line.old ≤ 1024) × (length line.old ≤ length p.now) × (length line.old ≤ length q.now) }
+    ensures { Met line.old line.new p.now q.now (length line.old) s s (length line.old - s) result }
 {
+    let m = line.len() - 2 * s;
     let mut count = 0;
     for a in (0..m).step_by(2 * s + 1) {
         line[a + s] = p[a + 2 * s];
@@ -161,29 +156,30 @@ fn meet_whole(line: &mut [u16], s: usize, m: usize, p: &[u16], q: &[u16]) -> usi
 }
 
 // Each sample becomes the least over its window of radius s, from the block minima p and q. Returns the number of comparisons.
-fn meet(line: &mut [u16], n: usize, s: usize, p: &[u16], q: &[u16]) -> usize
-    requires { (s ≤ 30) × (0 < n) × (n ≤ 1024) × (n ≤ length line.old) × (n ≤ length p.now) × (n ≤ length q.now) }
-    ensures { Met line.old line.new p.now q.now n s 0 n result }
+fn meet(line: &mut [u16], s: usize, p: &[u16], q: &[u16]) -> usize
+    requires { (s ≤ 30) × (0 < length line.old) × (length line.old ≤ 1024) × (length line.old ≤ length p.now) × (length line.old ≤ length q.now) }
+    ensures { Met line.old line.new p.now q.now (length line.old) s 0 (length line.old) result }
 {
+    let n = line.len();
     if n <= 2 * s {
-        return meet_cut(line, n, s, p, q, 0, n);
+        return meet_cut(line, s, p, q, 0, n);
     }
-    let a = meet_cut(line, n, s, p, q, 0, s);
-    let b = meet_whole(line, s, n - 2 * s, p, q);
-    let c = meet_cut(line, n, s, p, q, n - s, n);
+    let a = meet_cut(line, s, p, q, 0, s);
+    let b = meet_whole(line, s, p, q);
+    let c = meet_cut(line, s, p, q, n - s, n);
     a + b + c
 }
 
-// Each of the first n samples becomes the least over its window of radius s. p and q are scratch. Returns the number of comparisons.
-pub fn shrink(line: &mut [u16], n: usize, s: usize, p: &mut [u16], q: &mut [u16]) -> usize
-    requires { (s ≤ 30) × (0 < n) × (n ≤ 1024) × (n ≤ length line.old) × (n ≤ length p.old) × (n ≤ length q.old) }
-    ensures mins { (x : ℕ) → x < n → get_or line.new x 0 ≡ windowed min (λ i. get_or line.old i 0) s n x }
-    ensures count { result ≡ comparisons s (samples n) }
+// Each sample becomes the least over its window of radius s. p and q are scratch. Returns the number of comparisons.
+pub fn shrink(line: &mut [u16], s: usize, p: &mut [u16], q: &mut [u16]) -> usize
+    requires { (s ≤ 30) × (0 < length line.old) × (length line.old ≤ 1024) × (length line.old ≤ length p.old) × (length line.old ≤ length q.old) }
+    ensures mins { (x : ℕ) → x < length line.old → get_or line.new x 0 ≡ windowed min (λ i. get_or line.old i 0) s (length line.old) x }
+    ensures count { result ≡ comparisons s (samples (length line.old)) }
 {
     if s == 0 {
         return 0;
     }
-    let a = halves(line, n, 2 * s + 1, p, q);
-    let b = meet(line, n, s, p, q);
+    let a = halves(line, 2 * s + 1, p, q);
+    let b = meet(line, s, p, q);
     a + b
 }

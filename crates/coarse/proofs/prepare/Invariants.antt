@@ -4,4 +4,4 @@ use Rattle.coarse.proofs.Going.{Going}
 use Rattle.coarse.proofs.prepare.Given as goal
 
 abbrev pub invariant-loop-i : goal.invariant-loop-i
-invariant-loop-i l = Going l.v l.k l.a l.mask l.frame l.initial.work l.work l.row l.p l.q l.store l.ahead l.out l.count l.i
+invariant-loop-i l = Going l.v l.k l.a l.mask l.frame l.initial.work l.work l.columns.store l.columns.ahead l.columns.h l.columns.s l.count l.i

@@ -1,6 +1,5 @@
 -- `coarse::sample_row` meets its contract. The loop's invariant is the contract at x pixels. Assumes nothing.
 use mathlib.Core.Path.{◌≡◌, ap, ◌∙◌}
-use Prim.Native.Nat.{◌+◌}
 use native.Mathlib.Omega.{arith}
 use lib.ListN.{get_or}
 use lib.IntN.{pos}
@@ -16,7 +15,7 @@ pub loop-x-preserved : goal.loop-x-preserved
 loop-x-preserved c =
     let l = c.loop-x in
     let d = c.args in
-    let S : Shown Sample = sample_of d.omega (masked_at d.mask.now d.frame.now (d.p + l.x)) (get_or d.d.now l.x 0) in
+    let S : Shown Sample = sample_of d.omega (masked_at d.mask.now d.frame.now l.x) (get_or d.d.now l.x 0) in
     let g : c.guide_of-g.result ≡ S.value.g = c.guide_of-g.ensures.0 ∙ ap guide c.pixel_at.ensures in
     let t : c.coarse_of-t.result ≡ S.value.t = c.coarse_of-t.ensures in
     let product : c.word-product.result ≡ pos (product_word S.value) = c.word-product.ensures ∙ (λ i. pos (product_word (record { g = g i; t = t i }))) in

@@ -4,4 +4,4 @@ use Rattle.light.proofs.Going.{Going}
 use Rattle.light.proofs.darks.Given as goal
 
 abbrev pub invariant-loop-i : goal.invariant-loop-i
-invariant-loop-i l = Going (described l.z) l.s l.mask l.frame l.initial.work l.work l.apart l.tops l.store l.ahead l.count l.i
+invariant-loop-i l = Going (described l.z) l.s l.mask l.frame l.initial.work l.work l.apart l.tops l.columns.store l.columns.ahead l.columns.h l.columns.s l.count l.i

@@ -12,7 +12,7 @@ pub loop-x-preserved : goal.loop-x-preserved
 loop-x-preserved c =
     let l = c.loop-x in
     let d = c.args in
-    let h : get_or d.d.now l.x 0 ≤ 256 = c.requires.2 l.x c.loop-x-test.true in
+    let h : get_or d.d.now l.x 0 ≤ 256 = c.requires.1 l.x c.loop-x-test.true in
     let x : ℕ = 4 * get_or d.d.now l.x 0 + (d.first + l.x) % 4 in
     let e : d.first + (l.x + 1) ≡ d.first + l.x + 1 = omega arith in
     let b : x < length l.apart = omega arith in (
@@ -23,5 +23,6 @@ loop-x-preserved c =
 pub returns : goal.returns
 returns c D s r =
     let l = c.loop-x in
-    let e : l.x ≡ c.args.n = omega arith in
+    let d = c.args in
+    let e : l.x ≡ length d.d.now = omega arith in
     rw e at (l.invariant.1 D s r)

@@ -2,11 +2,11 @@
 -- Assumes nothing.
 use mathlib.Core.Path.{◌≡◌}
 use Prim.Native.Nat.{ℕ, ◌<◌, ◌+◌}
-use lib.ListN.{get_or}
+use lib.ListN.{length, get_or}
 use Rattle.light.specs.Steps.{hits, Starts, Below, lane}
 use Rattle.light.proofs.tally_row.Given as goal
 
 abbrev pub invariant-loop-x : goal.invariant-loop-x
 invariant-loop-x l =
     Below (l.first + l.x) l.apart
-    × ((D : ℕ → ℕ) → Starts (hits (lane D) l.first) 1028 l.initial.apart → ((i : ℕ) → i < l.n → get_or l.d i 0 ≡ D (l.first + i)) → Starts (hits (lane D) (l.first + l.x)) 1028 l.apart)
+    × ((D : ℕ → ℕ) → Starts (hits (lane D) l.first) 1028 l.initial.apart → ((i : ℕ) → i < length l.d → get_or l.d i 0 ≡ D (l.first + i)) → Starts (hits (lane D) (l.first + l.x)) 1028 l.apart)
