@@ -6,7 +6,7 @@
 ghost use Rattle.std.specs.Prelude.{◌≡◌, true, ℕ, ◌+◌, ◌-◌, ◌≤◌, ◌<◌, max, length, get_or, pos, nat_abs};
 ghost use Rattle.planes.specs.View.{InPlane, Framed, row_start};
 ghost use Rattle.planes.specs.Stage.{box_seen};
-ghost use Rattle.sums.specs.Sum.{kept, Columns, Spannable};
+ghost use Rattle.sums.specs.Sum.{kept, Columns, Blank, Spannable};
 ghost use Rattle.pixel.specs.Over.{Over, parts};
 ghost use Rattle.sizes.specs.Bits.{row_ends, row_stands};
 ghost use Rattle.sizes.specs.Sizes.{Table, Sizes, Unchanged, Row, shows, bit_plane, bits_of, Count, span_at, Counted, Countable, Inverted};
@@ -155,4 +155,65 @@ pub fn resize(
     advance(cols, Seen { mask, b }, v, r, at);
     size_row(cols, v.left, 2 * r + 1, v.wide, ns);
     inverse_row(table, v.wide, ns, inverses);
+}
+
+// The sizes of the windows of radius r about the pixels of the view's row y, and their reciprocals, with what they are made of: the columns of the mask, and a table
+// of the reciprocals that were met.
+#[derive(Drop)]
+pub struct WindowSizes {
+    columns: [i64; 1152],
+    table: [u64; 14642],
+    pub ns: [u64; 1024],
+    pub inverses: [u64; 1024],
+    ghost known: { Table table },
+}
+
+impl WindowSizes {
+    ghost use Rattle.sizes.specs.Before.{SizesBefore, SizesAbout};
+
+    pub fn new() -> Self
+        ensures { Blank result.columns }
+    {
+        WindowSizes {
+            columns: [0; 1152],
+            table: [0; 14642],
+            ns: [0; 1024],
+            inverses: [0; 1024],
+        }
+    }
+
+    // The columns before the view's first row.
+    pub fn begin(&mut self, mask: &[u8], b: View, v: View, r: usize)
+        requires { InPlane v × Framed b v mask.now × (r ≤ 60) × Blank self.old.columns }
+        ensures { SizesBefore b v r mask.now 0 self.new }
+    {
+        begin_of(&mut self.columns[..], Seen { mask, b }, v, r);
+    }
+
+    // The sizes and reciprocals of the view's row y, and the columns from before that row to before the next. Those of the row before are there already.
+    pub fn resize(&mut self, mask: &[u8], b: View, v: View, r: usize, y: usize)
+        requires in_plane { InPlane v × Framed b v mask.now × (r ≤ 60) × (y < v.tall) }
+        requires before { SizesBefore b v r mask.now y self.old }
+        ensures before { SizesBefore b v r mask.now (y + 1) self.new }
+        ensures about { SizesAbout b v r mask.now y self.new }
+    {
+        let at = v.top + y;
+        if 0 < y && unchanged(mask, b, v, r, at) {
+            return;
+        }
+        advance(&mut self.columns[..], Seen { mask, b }, v, r, at);
+        size_row(
+            &self.columns[..],
+            v.left,
+            2 * r + 1,
+            v.wide,
+            &mut self.ns[..],
+        );
+        inverse_row(
+            &mut self.table[..],
+            v.wide,
+            &self.ns[..],
+            &mut self.inverses[..],
+        );
+    }
 }
