@@ -4,7 +4,7 @@
 ghost use Rattle.std.specs.Prelude.{◌≡◌, List, ℕ, ◌+◌, ◌*◌, ◌≤◌, ◌<◌, length, get_or, ℤ, pos};
 ghost use Rattle.rules.specs.Window.{Plane};
 ghost use Rattle.planes.specs.Cells.{cells};
-ghost use Rattle.sums.specs.Sum.{Summable, Readable, Columns, RowSums, kept, entry, range_sum, RowIn, Rewritten, entered, left, slid, Spannable, Spans, cells_row};
+ghost use Rattle.sums.specs.Sum.{Summable, Readable, Blank, Columns, RowSums, kept, entry, range_sum, RowIn, Rewritten, entered, left, slid, Spannable, Spans, cells_row};
 
 use planes::View;
 
@@ -236,4 +236,84 @@ pub fn next(
         v.top + y,
     );
     across(a, b, v.left, 2 * r + 1, v.wide, one, two);
+}
+
+// ---- two planes
+
+// The sums over the squares about the pixels of a row, of two planes at once, with what they are made of: the columns of both.
+#[derive(Drop)]
+pub struct SquareSums {
+    first_columns: [i64; 1152],
+    second_columns: [i64; 1152],
+    pub first: [i64; 1024],
+    pub second: [i64; 1024],
+}
+
+impl SquareSums {
+    ghost use Rattle.sums.specs.Before.{SumsBefore, SumsAbout};
+
+    pub fn new() -> Self
+        ensures { Blank result.first_columns × Blank result.second_columns }
+    {
+        SquareSums {
+            first_columns: [0; 1152],
+            second_columns: [0; 1152],
+            first: [0; 1024],
+            second: [0; 1024],
+        }
+    }
+
+    // The columns before the box's first row, of planes at the front of lent values.
+    pub fn begin(&mut self, plane: &[i64], other: &[i64], v: View, r: usize)
+        requires { Summable plane.now v r × Summable other.now v r × Blank self.old.first_columns × Blank self.old.second_columns }
+        ensures { SumsBefore v r plane.now other.now 0 self.new }
+    {
+        let w = v.w;
+        begin_of(
+            &mut self.first_columns[..],
+            Values { values: plane, w },
+            v,
+            r,
+        );
+        begin_of(
+            &mut self.second_columns[..],
+            Values { values: other, w },
+            v,
+            r,
+        );
+    }
+
+    // The sums of the box's row y, and the columns from before that row to before the next. In one pass along the row the two running sums do not wait for each other.
+    pub fn next(&mut self, plane: &[i64], other: &[i64], v: View, r: usize, y: usize)
+        requires summable { Summable plane.now v r × Summable other.now v r × (y < v.tall) }
+        requires before { SumsBefore v r plane.now other.now y self.old }
+        ensures before { SumsBefore v r plane.now other.now (y + 1) self.new }
+        ensures about { SumsAbout v r plane.now other.now y self.new }
+    {
+        let w = v.w;
+        let at = v.top + y;
+        advance(
+            &mut self.first_columns[..],
+            Values { values: plane, w },
+            v,
+            r,
+            at,
+        );
+        advance(
+            &mut self.second_columns[..],
+            Values { values: other, w },
+            v,
+            r,
+            at,
+        );
+        across(
+            &self.first_columns[..],
+            &self.second_columns[..],
+            v.left,
+            2 * r + 1,
+            v.wide,
+            &mut self.first[..],
+            &mut self.second[..],
+        );
+    }
 }

@@ -15,30 +15,29 @@ ghost use Rattle.writer.specs.Write.{Placed, entry_over, recovered_by, Entries};
 use pixel::{guide_of, pixel_at, recovered, refined, scale};
 use planes::{View, row_start, seen_or};
 use rules::Rgb;
-use sizes::resize;
-use sums::{begin, next};
+use sizes::WindowSizes;
+use sums::SquareSums;
 
-// The map entries of n pixels of the frame from position p on go to the front of the part.
+// The map entries of n pixels of the frame from position p on go to the front of the part: from the sums of slopes and of offsets, and from the windows' sizes.
 fn refine_row(
     map: &mut [u16],
     mask: &[u8],
     frame: &[u8],
     p: usize,
     n: usize,
-    slopes: &[i64],
-    offsets: &[i64],
-    ns: &[u64],
-    inverses: &[u64],
+    sums: &SquareSums,
+    sizes: &WindowSizes,
 )
-    requires { (n ≤ length map.old) × (p + n ≤ length mask.now) × (3 * (p + n) ≤ length frame.now) × Windows n slopes.now offsets.now ns.now inverses.now }
-    ensures { Run (entry_from mask.now frame.now p slopes.now offsets.now ns.now) p n map.old map.new }
+    requires { (n ≤ length map.old) × (p + n ≤ length mask.now) × (3 * (p + n) ≤ length frame.now)
+        × Windows n sums.now.first sums.now.second sizes.now.ns sizes.now.inverses }
+    ensures { Run (entry_from mask.now frame.now p sums.now.first sums.now.second sizes.now.ns) p n map.old map.new }
 {
     for i in 0..n {
         let t = refined(
-            ns[i],
-            inverses[i],
-            slopes[i],
-            offsets[i],
+            sizes.ns[i],
+            sizes.inverses[i],
+            sums.first[i],
+            sums.second[i],
             guide_of(pixel_at(frame, p + i)),
         );
         map[i] = seen_or(mask[p + i], t as u16, 10000);
@@ -108,53 +107,16 @@ pub fn write_map(
         → map.new ≡ map_with (whole to) (near 0 (rect_of to)) (entry_over to v r (pixels (whole to) frame.now) F) map.old }
     ensures held { Entries to map.new }
 {
-    let mut slopes = [0i64; 1152];
-    let mut offsets = [0i64; 1152];
-    let mut one = [0i64; 1024];
-    let mut two = [0i64; 1024];
-    let mut ns = [0u64; 1024];
-    let mut over = [0u64; 1024];
-    let mut table = [0u64; 14642];
-    let mut counts = [0i64; 1152];
     let second = lines + v.w * v.h;
-    sizes::begin(&mut counts[..], mask, b, v, r);
-    begin(&mut slopes[..], &work[lines..], v, r);
-    begin(&mut offsets[..], &work[second..], v, r);
+    let mut sizes = WindowSizes::new();
+    let mut sums = SquareSums::new();
+    sizes.begin(mask, b, v, r);
+    sums.begin(&work[lines..], &work[second..], v, r);
     for y in 0..v.tall {
-        resize(
-            mask,
-            b,
-            v,
-            r,
-            y,
-            &mut counts[..],
-            &mut table[..],
-            &mut ns[..],
-            &mut over[..],
-        );
-        next(
-            &mut slopes[..],
-            &mut offsets[..],
-            &work[lines..],
-            &work[second..],
-            v,
-            r,
-            y,
-            &mut one[..],
-            &mut two[..],
-        );
+        sizes.resize(mask, b, v, r, y);
+        sums.next(&work[lines..], &work[second..], v, r, y);
         let p = row_start(to, y);
-        refine_row(
-            &mut map[p..],
-            mask,
-            frame,
-            p,
-            v.wide,
-            &one[..],
-            &two[..],
-            &ns[..],
-            &over[..],
-        );
+        refine_row(&mut map[p..], mask, frame, p, v.wide, &sums, &sizes);
     }
 }
 

@@ -1,5 +1,6 @@
 -- `sizes::WindowSizes::resize` meets its contract: the sizes and reciprocals are worked out, or they are those of the row before, as the columns are. Assumes nothing.
-use Prim.Native.Nat.{◌+◌, ◌-◌, ◌*◌, ◌<◌}
+use Prim.Native.Nat.{◌+◌, ◌-◌, ◌*◌, ◌≤◌, ◌<◌}
+use lib.ListN.{length}
 use mathlib.Core.Path.{◌≡◌, refl}
 use native.Mathlib.Omega.{arith}
 use Rattle.planes.specs.Stage.{box_seen}
@@ -19,12 +20,16 @@ pub returns-then-unchanged : goal.returns-then-unchanged
 returns-then-unchanged c =
     let a = c.args in
     let v = a.v in
-    let next = still (c.unchanged.ensures c.if-unchanged.true) c.requires.before.columns in
+    let before = c.requires.before in
+    let old = before.sizes c.if-y-gt0.true in
+    let next = still (c.unchanged.ensures c.if-unchanged.true) before.columns in
     let e : v.top + a.y ≡ v.top + (a.y - 1) + 1 = omega (arith, c.if-y-gt0.true) in
-    let about =
-    sizes_same (box_seen a.b a.mask.now) c.requires.in_plane.0 e (inside (goal.at.returns-then-unchanged c).Start) c.requires.before.columns next
-    (c.requires.before.sizes c.if-y-gt0.true) in
-    record { before = before_next a.y next about; about = about }
+    let sizes =
+    sizes_same (box_seen a.b a.mask.now) c.requires.in_plane.0 e (inside (goal.at.returns-then-unchanged c).Start) before.columns next old.sizes in
+    record {
+      before = before_next a.y next sizes old.ns_long old.inverses_long;
+      about = record { sizes = sizes; ns_long = old.ns_long; inverses_long = old.inverses_long };
+    }
 
 pub size_row-requires : goal.size_row-requires
 size_row-requires c =
@@ -54,6 +59,9 @@ inverse_row-requires c =
 pub returns : goal.returns
 returns c =
     let a = c.args in
-    let about =
-    sizes_all (box_seen a.b a.mask.now) c.requires.in_plane.0 c.advance.ensures (inside (goal.at.returns c).Start) refl c.size_row.ensures c.inverse_row.ensures.over in
-    record { before = before_next a.y c.advance.ensures about; about = about }
+    let p = c.requires.in_plane.0 in
+    let short = p.short in
+    let sizes = sizes_all (box_seen a.b a.mask.now) p c.advance.ensures (inside (goal.at.returns c).Start) refl c.size_row.ensures c.inverse_row.ensures.over in
+    let ns : a.v.wide ≤ length c.size_row.new.ns = omega (arith, c.size_row.auto.ns, p.fits.columns) in
+    let inverses : a.v.wide ≤ length c.inverse_row.new.inverses = omega (arith, c.inverse_row.auto.inverses, p.fits.columns) in
+    record { before = before_next a.y c.advance.ensures sizes ns inverses; about = record { sizes = sizes; ns_long = ns; inverses_long = inverses } }
