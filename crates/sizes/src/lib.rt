@@ -62,14 +62,6 @@ impl<'a> Source for Seen<'a> {
     }
 }
 
-// The columns before the view's first row. They hold 0 before.
-pub fn begin(cols: &mut [i64], mask: &[u8], b: View, v: View, r: usize)
-    requires { InPlane v × Framed b v mask.now × (r ≤ 60) × (length cols.old ≡ kept) × ((k : ℕ) → get_or cols.old k (pos 0) ≡ pos 0) }
-    ensures { Columns cols.new (bit_plane b mask.now) v.w v.h r v.top }
-{
-    begin_of(cols, Seen { mask, b }, v, r);
-}
-
 // Whether the columns before row y + 1 of the box are those before row y: one row enters and another leaves, and they are seen alike.
 fn unchanged(mask: &[u8], b: View, v: View, r: usize, y: usize) -> bool
     requires { InPlane v × Framed b v mask.now × (r ≤ 60) × (y < v.h) }
@@ -127,34 +119,6 @@ fn inverse_row(table: &mut [u64], m: usize, ns: &[u64], inverses: &mut [u64])
     for i in 0..m {
         inverses[i] = inverse_of(table, ns[i] as usize);
     }
-}
-
-// The sizes of the windows of radius r about the pixels of the view's row y, and their reciprocals, and the columns from before that row to before the next.
-// Those of the row before are there already.
-pub fn resize(
-    mask: &[u8],
-    b: View,
-    v: View,
-    r: usize,
-    y: usize,
-    cols: &mut [i64],
-    table: &mut [u64],
-    ns: &mut [u64],
-    inverses: &mut [u64],
-)
-    requires in_plane { InPlane v × Framed b v mask.now × (r ≤ 60) × (y < v.tall) × Table table.old × (v.wide ≤ length ns.old) × (v.wide ≤ length inverses.old) }
-    requires columns_2 { Columns cols.old (bit_plane b mask.now) v.w v.h r (v.top + y) × (0 < y → Sizes v r (box_seen b mask.now) (v.top + (y - 1)) ns.old inverses.old) }
-    ensures columns { Columns cols.new (bit_plane b mask.now) v.w v.h r (v.top + y + 1) }
-    ensures table { Table table.new }
-    ensures sizes { Sizes v r (box_seen b mask.now) (v.top + y) ns.new inverses.new }
-{
-    let at = v.top + y;
-    if 0 < y && unchanged(mask, b, v, r, at) {
-        return;
-    }
-    advance(cols, Seen { mask, b }, v, r, at);
-    size_row(cols, v.left, 2 * r + 1, v.wide, ns);
-    inverse_row(table, v.wide, ns, inverses);
 }
 
 // The sizes of the windows of radius r about the pixels of the view's row y, and their reciprocals, with what they are made of: the columns of the mask, and a table

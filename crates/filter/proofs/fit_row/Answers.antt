@@ -20,11 +20,11 @@ loop-i-preserved c =
     let w = c.loop-i in
     let g = c.requires.0 in
     let less = c.loop-i-test.true in
-    let F = row_line a.products.now a.squares.now a.ns.now a.e a.mask.now a.at in
+    let F = row_line a.sums.now.first a.sums.now.second a.sizes.now.ns a.e a.mask.now a.at in
     let turn = row_turn a.work.now w.work a.slopes a.offsets a.n w.i F g.apart (omega (arith, g.room, w.auto.work)) less w.invariant c.if-mask-at-eq0.work in
     elim c.if-mask-at-eq0.branch [
       | then-mask-at-eq0 k ↦
-          turn flat_line (hidden_line a.products.now a.squares.now a.ns.now a.e a.mask.now a.at w.i k.if-mask-at-eq0.true) (k.work-is ∙ k.put_line.ensures) (omega arith, omega arith)
+          turn flat_line (hidden_line a.sums.now.first a.sums.now.second a.sizes.now.ns a.e a.mask.now a.at w.i k.if-mask-at-eq0.true) (k.work-is ∙ k.put_line.ensures) (omega arith, omega arith)
       | else-mask-at-eq0 k ↦
           turn _ (read_line g w.i less k.if-mask-at-eq0.false a.e) (k.work-is ∙ k.fit_pixel.ensures.line) k.fit_pixel.ensures.small
     ]
