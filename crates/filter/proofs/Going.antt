@@ -65,15 +65,10 @@ own {b} {v} {mask} i f y less at e = record {
   seen = λ x hx. rw e (ap (seen_at mask) (add_assoc (row_start b (v.top + y)) v.left x) ∙ seen_at_lem b mask (v.top + y) (v.left + x));
 }
 
--- ---- a row's sums
-
--- of both words over the squares about the pixels of row y, how many seen pixels these have, and the reciprocals
-pub record Summed (b v : View) (r : ℕ) (mask : List ℕ) (m : List ℤ) (y : ℕ) (sums : SquareSums) (sizes : WindowSizes) : Type 0 where
-  pub words : SumsAbout v r m (rest m (v.w * v.h)) y sums
-  pub counts : SizesAbout b v r mask y sizes
+-- ---- a row's sums: q of both words over the squares about the pixels of row y, and k of how many seen pixels these have
 
 module _ {b v : View} {r y at : ℕ} {mask : List ℕ} {m : List ℤ} {sums : SquareSums} {sizes : WindowSizes} (i : InPlane v) (hr : r ≤ 60) (less : y < v.tall)
-    (o : Own v (box_seen b mask) mask at y) (q : Summed b v r mask m y sums sizes) {S : Plane (Shown Sample)} (s : Sampled m v.w v.h (box_seen b mask) S) (x : ℕ)
+    (o : Own v (box_seen b mask) mask at y) (q : SumsAbout v r m (rest m (v.w * v.h)) y sums) (k : SizesAbout b v r mask y sizes) {S : Plane (Shown Sample)} (s : Sampled m v.w v.h (box_seen b mask) S) (x : ℕ)
     (hx : x < v.wide) where
   -- the pixel lies in the plane
   row : v.top + y < v.h
@@ -87,14 +82,14 @@ module _ {b v : View} {r y at : ℕ} {mask : List ℕ} {m : List ℤ} {sums : Sq
 
   -- what has been read is its window's size, and the sums of words over it
   n_is : get_or sizes.ns x 0 ≡ size_at v.w v.h r (box_seen b mask) (v.top + y) (v.left + x)
-  n_is = q.counts.sizes.is x hx
+  n_is = k.sizes.is x hx
 
   u_is : get_or sums.first x (pos 0) ≡ pos (total product_word near)
-  u_is = q.words.first.is x hx ∙ word_total s r (v.top + y) (v.left + x) row column product_word (cells m 0 v.w) s.products
+  u_is = q.first.is x hx ∙ word_total s r (v.top + y) (v.left + x) row column product_word (cells m 0 v.w) s.products
 
   v_is : get_or sums.second x (pos 0) ≡ pos (total square_word near)
   v_is =
-      q.words.second.is x hx
+      q.second.is x hx
       ∙ word_total s r (v.top + y) (v.left + x) row column square_word (cells (rest m (v.w * v.h)) 0 v.w)
       (λ v' u hv hu. rest_cells m (v.w * v.h) v.w v' u ∙ s.squares v' u hv hu)
 
@@ -115,22 +110,22 @@ module _ {b v : View} {r y at : ℕ} {mask : List ℕ} {m : List ℤ} {sums : Sq
 
 -- what the row's fit is given
 pub row_in : {b v : View} {r y at : ℕ} {mask : List ℕ} {m : List ℤ} {sums : SquareSums} {sizes : WindowSizes} {S : Plane (Shown Sample)} → InPlane v → r ≤ 60 → y < v.tall
-    → Own v (box_seen b mask) mask at y → Summed b v r mask m y sums sizes → Sampled m v.w v.h (box_seen b mask) S → 2 * (v.w * v.h) + 2 * (v.wide * v.tall) ≤ length m
+    → Own v (box_seen b mask) mask at y → SumsAbout v r m (rest m (v.w * v.h)) y sums → SizesAbout b v r mask y sizes → Sampled m v.w v.h (box_seen b mask) S → 2 * (v.w * v.h) + 2 * (v.wide * v.tall) ≤ length m
     → RowIn m (2 * (v.w * v.h) + y * v.wide) (2 * (v.w * v.h) + v.wide * v.tall + y * v.wide) v.wide sums.first sums.second sizes.ns sizes.inverses mask at
-row_in {v = v} {y = y} i hr less o q s room =
+row_in {v = v} {y = y} i hr less o q k s room =
     let end = row_end v.wide v.tall y less in
     record {
       apart = omega arith;
       room = omega arith;
-      us_long = q.words.first_long;
-      vs_long = q.words.second_long;
-      ns_long = q.counts.ns_long;
-      inverses_long = q.counts.inverses_long;
+      us_long = q.first_long;
+      vs_long = q.second_long;
+      ns_long = k.ns_long;
+      inverses_long = k.inverses_long;
       mask_long = o.room;
-      us_whole = λ x hx. let e = u_is i hr less o q s x hx in e ∙ ap (λ (z : ℤ). pos (nat_abs z)) (sym e);
-      vs_whole = λ x hx. let e = v_is i hr less o q s x hx in e ∙ ap (λ (z : ℤ). pos (nat_abs z)) (sym e);
-      moments = λ x hx. row_moments i hr less o q s x hx;
-      over = q.counts.sizes.over;
+      us_whole = λ x hx. let e = u_is i hr less o q k s x hx in e ∙ ap (λ (z : ℤ). pos (nat_abs z)) (sym e);
+      vs_whole = λ x hx. let e = v_is i hr less o q k s x hx in e ∙ ap (λ (z : ℤ). pos (nat_abs z)) (sym e);
+      moments = λ x hx. row_moments i hr less o q k s x hx;
+      over = k.sizes.over;
     }
 
 -- ---- before row y
@@ -161,7 +156,7 @@ module _ {b v : View} {r e y : ℕ} {mask : List ℕ} {l m : List ℤ} {sums : S
   pub going_sampled : {S : Plane (Shown Sample)} → Sampled l v.w v.h (box_seen b mask) S → Sampled m v.w v.h (box_seen b mask) S
   going_sampled = sampled_still g.before long
 
-  module _ {n : List ℤ} {sums' : SquareSums} {sizes' : WindowSizes} {at : ℕ} (o : Own v (box_seen b mask) mask at y) (q : Summed b v r mask m y sums' sizes')
+  module _ {n : List ℤ} {sums' : SquareSums} {sizes' : WindowSizes} {at : ℕ} (o : Own v (box_seen b mask) mask at y) (q : SumsAbout v r m (rest m (v.w * v.h)) y sums') (k : SizesAbout b v r mask y sizes')
       (words : SumsBefore v r m (rest m (v.w * v.h)) (y + 1) sums') (counts : SizesBefore b v r mask (y + 1) sizes')
       (w : RowLines m n (2 * (v.w * v.h) + y * v.wide) (2 * (v.w * v.h) + v.wide * v.tall + y * v.wide) v.wide (row_line sums'.first sums'.second sizes'.ns e mask at)) where
     -- the row lies behind the samples
@@ -171,10 +166,10 @@ module _ {b v : View} {r e y : ℕ} {mask : List ℕ} {l m : List ℤ} {sums : S
     -- one row more
     pub going_more : Going b v r e mask l n sums' sizes' (y + 1)
     going_more = record {
-      before = record { same = λ k h. same.same k h ∙ g.before.same k h };
-      after = record { same = λ k h. row_after m n (2 * (v.w * v.h)) v.wide v.tall y _ less w k h ∙ g.after.same k h };
+      before = record { same = λ p h. same.same p h ∙ g.before.same p h };
+      after = record { same = λ p h. row_after m n (2 * (v.w * v.h)) v.wide v.tall y _ less w p h ∙ g.after.same p h };
       lines = λ S s.
-          lines_more m n (2 * (v.w * v.h)) v.wide v.tall y _ less w (drawn v r e S) (λ x hx. row_line_lem i hr less o q (going_sampled s) x hx e) (g.lines S s);
+          lines_more m n (2 * (v.w * v.h)) v.wide v.tall y _ less w (drawn v r e S) (λ x hx. row_line_lem i hr less o q k (going_sampled s) x hx e) (g.lines S s);
       words = sums_still same words;
       counts = counts;
     }

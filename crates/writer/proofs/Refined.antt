@@ -80,12 +80,8 @@ chosen false t u e = e refl
 
 -- ---- row y of the view: the sums of slopes and offsets, and the sizes, of its windows
 
-pub record RowRead (b v : View) (r y : ℕ) (mask : List ℕ) (l : List ℤ) (lines : ℕ) (sums : SquareSums) (sizes : WindowSizes) : Type 0 where
-  pub sums_about : SumsAbout v r (rest l lines) (rest l (lines + v.w * v.h)) y sums
-  pub sizes_about : SizesAbout b v r mask y sizes
-
-module _ (b v : View) (r y : ℕ) (mask : List ℕ) (l : List ℤ) (base : ℕ) (sums : SquareSums) (sizes : WindowSizes) (row : RowRead b v r y mask l base sums sizes)
-    (F : Plane (Shown Line)) (lined : Lined l base v.w v.h (box_seen b mask) F) (p : InPlane v) (hr : r ≤ 60) (hy : y < v.tall) where
+module _ (b v : View) (r y : ℕ) (mask : List ℕ) (l : List ℤ) (base : ℕ) (sums : SquareSums) (sizes : WindowSizes)
+    (q : SumsAbout v r (rest l base) (rest l (base + v.w * v.h)) y sums) (k : SizesAbout b v r mask y sizes) (F : Plane (Shown Line)) (lined : Lined l base v.w v.h (box_seen b mask) F) (p : InPlane v) (hr : r ≤ 60) (hy : y < v.tall) where
   abbrev about : ℕ → List Line
   about i = window (whole v) r F (v.top + y) (v.left + i)
 
@@ -99,13 +95,13 @@ module _ (b v : View) (r y : ℕ) (mask : List ℕ) (l : List ℤ) (base : ℕ) 
   -- what the lists hold of one window
   row_read : (i : ℕ) → i < v.wide → Read (about i) (get_or sizes.ns i 0) (get_or sums.first i (pos 0)) (get_or sums.second i (pos 0))
   row_read i h = record {
-    size = row.sizes_about.sizes.is i h ∙ size_window v.w v.h r (box_seen b mask) F lined.seen (v.top + y) (v.left + i) inside (inside_x i h);
+    size = k.sizes.is i h ∙ size_window v.w v.h r (box_seen b mask) F lined.seen (v.top + y) (v.left + i) inside (inside_x i h);
     slopes =
-        row.sums_about.first.is i h
+        q.first.is i h
         ∙ window_sum (whole v) r F (v.top + y) (v.left + i) inside (inside_x i h) (λ k. k.a) _
         (λ y x hy hx. rest_cells l base v.w y x ∙ lined.slopes y x hy hx);
     offsets =
-        row.sums_about.second.is i h
+        q.second.is i h
         ∙ window_sum (whole v) r F (v.top + y) (v.left + i) inside (inside_x i h) (λ k. k.b) _
         (λ y x hy hx. rest_cells l (base + v.w * v.h) v.w y x ∙ lined.offsets y x hy hx);
   }
@@ -113,13 +109,13 @@ module _ (b v : View) (r y : ℕ) (mask : List ℕ) (l : List ℤ) (base : ℕ) 
   -- what the row's function asks of all
   pub windows : Windows v.wide sums.first sums.second sizes.ns sizes.inverses
   windows = record {
-    a_long = row.sums_about.first_long;
-    b_long = row.sums_about.second_long;
-    n_long = row.sizes_about.ns_long;
-    i_long = row.sizes_about.inverses_long;
-    some = λ i h. rw (row.sizes_about.sizes.is i h) (size_some v.w v.h r (box_seen b mask) (v.top + y) (v.left + i));
-    few = λ i h. rw (row.sizes_about.sizes.is i h) (size_few v.w v.h r (box_seen b mask) (v.top + y) (v.left + i) hr);
-    over = row.sizes_about.sizes.over;
+    a_long = q.first_long;
+    b_long = q.second_long;
+    n_long = k.ns_long;
+    i_long = k.inverses_long;
+    some = λ i h. rw (k.sizes.is i h) (size_some v.w v.h r (box_seen b mask) (v.top + y) (v.left + i));
+    few = λ i h. rw (k.sizes.is i h) (size_few v.w v.h r (box_seen b mask) (v.top + y) (v.left + i) hr);
+    over = k.sizes.over;
     a_le = λ i h.
         rw (row_read i h).slopes
         (omega (arith, (row_read i h).size, window_size (whole v) r F (v.top + y) (v.left + i) inside (inside_x i h) (λ k. k.a) 2560000 lined.a_le));

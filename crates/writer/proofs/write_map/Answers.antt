@@ -10,7 +10,7 @@ use Rattle.planes.proofs.Tails.{rest, rest_length}
 use Rattle.sums.specs.Sum.{Summable}
 use Rattle.writer.proofs.Rows.{entries_none, entries_more, upto_entries}
 use Rattle.writer.proofs.Sliding.{slopes_summable, offsets_summable}
-use Rattle.writer.proofs.Refined.{RowRead, windows, row_entries, map_held}
+use Rattle.writer.proofs.Refined.{windows, row_entries, map_held}
 use Rattle.writer.proofs.write_map.Goals as goal
 use Rattle.writer.proofs.write_map.Goals.{After-row_start-p, Start}
 
@@ -42,13 +42,7 @@ next-requires-clause-summable c =
     let s = (goal.at.next-requires-clause-summable c).Start in
     (slopes_given s, offsets_given s, c.loop-y-test.true)
 
--- the sums and the sizes of the row
-row : (c : After-row_start-p) →
-    let d = c.args in
-    RowRead d.b d.v d.r c.loop-y.y d.mask.now d.work.now d.lines c.next.new.self c.resize.new.self
-row c = record { sums_about = c.next.ensures.about; sizes_about = c.resize.ensures.about }
-
--- which lies in the map
+-- the row lies in the map
 place : (c : After-row_start-p) →
     let d = c.args in
     let from = c.row_start-p.result in
@@ -72,7 +66,7 @@ refine_row-requires c =
       omega (arith, p, rest_length l.map c.row_start-p.result),
       omega (arith, p),
       omega (arith, p),
-      windows d.b d.v d.r l.y d.mask.now d.work.now d.lines c.next.new.self c.resize.new.self (row t) lines.F lines.lined
+      windows d.b d.v d.r l.y d.mask.now d.work.now d.lines c.next.new.self c.resize.new.self c.next.ensures.about c.resize.ensures.about lines.F lines.lined
           c.requires.in_plane.1 c.requires.in_plane.4 c.loop-y-test.true,
     )
 
@@ -90,7 +84,7 @@ loop-y-preserved c =
     let across : d.to.left + d.to.wide ≤ d.to.w = i.0.fits.columns in record {
       written = λ F lined.
           entries_more d.to.w (rect_of d.to) (omega (arith, across, i.0.across)) across l.y _ d.map.now l.map c.refine_row.new.map from (length l.map - from) (l.invariant.written F lined) p.0
-          (row_entries d.b v d.r l.y d.mask.now d.work.now d.lines m.new.self n.new.self (row t) F lined i.1 i.4 c.loop-y-test.true d.to across i.2 i.6
+          (row_entries d.b v d.r l.y d.mask.now d.work.now d.lines m.new.self n.new.self c.next.ensures.about c.resize.ensures.about F lined i.1 i.4 c.loop-y-test.true d.to across i.2 i.6
           d.frame.now from _ c.refine_row.new.map p.0 c.refine_row.ensures)
           (omega (arith, p)) (omega (arith, p));
       sums = m.ensures.before;
