@@ -1,12 +1,14 @@
 -- The fit, row by row: what stands before row y, what the sums of a row are, and what the row's lines leave. The plane is the box b of the mask.
 -- Assumes nothing.
 use mathlib.Core.Path.{◌≡◌, refl, sym, ap, ◌∙◌}
-use mathlib.Core.Bool.{Bool, true, false, cond}
+use mathlib.Core.Bool.{Bool, true, false, cond, not}
 use mathlib.Core.List.{List}
-use Prim.Native.Nat.{ℕ, ◌+◌, ◌*◌, ◌≤◌, ◌<◌}
-use native.Mathlib.Nat.{add_assoc}
+use Prim.Native.Nat.{ℕ, ◌+◌, ◌-◌, ◌*◌, ◌≤◌, ◌<◌}
+use native.Mathlib.Nat.{zero-add, add_assoc}
 use native.Mathlib.Omega.{arith}
-use lib.ListN.{length, get_or}
+use lib.Dec.{eqb}
+use lib.ListN.{length, get_or, take, drop, length-drop}
+use lib.Seq.{get_or-take, get_or-drop, length-take-le}
 use lib.IntN.{ℤ, pos, nat_abs}
 use Rattle.rules.specs.Shape.{Shape}
 use Rattle.rules.specs.Window.{Plane, Shown, window, total}
@@ -54,6 +56,10 @@ drawn v r e S y x = standing (part v.top v.left (fitted v.w v.h r e S) y x)
 
 -- ---- the row's own pixels in the mask
 
+-- a part of a list is as long as it says
+pub part_long : (l : List ℕ) (a n : ℕ) → a + n ≤ length l → length (take (a + n - a) (drop a l)) ≡ n
+part_long l a n h = length-take-le (a + n - a) (drop a l) (simp length-drop (omega arith)) ∙ omega arith
+
 -- those of row y, from place `at` on: each is seen or hidden as the plane's pixel is
 pub record Own (v : View) (M : Plane Bool) (mask : List ℕ) (at y : ℕ) : Type 0 where
   pub room : at + v.wide ≤ length mask
@@ -65,14 +71,23 @@ own {b} {v} {mask} i f y less at e = record {
   seen = λ x hx. rw e (ap (seen_at mask) (add_assoc (row_start b (v.top + y)) v.left x) ∙ seen_at_lem b mask (v.top + y) (v.left + x));
 }
 
+-- and as a part of its own
+pub own_part : {v : View} {M : Plane Bool} {mask : List ℕ} {y : ℕ} (at : ℕ) → Own v M mask at y → Own v M (take (at + v.wide - at) (drop at mask)) 0 y
+own_part {v} {mask = mask} at o = record {
+  room = omega (arith, part_long mask at v.wide o.room);
+  seen = λ x hx.
+      ap (λ (m : ℕ). not (eqb m 0)) (get_or-take (at + v.wide - at) (drop at mask) (0 + x) 0 (omega arith) ∙ get_or-drop at mask (0 + x) 0 ∙ ap (λ (k : ℕ). get_or mask (at + k) 0) (zero-add x))
+      ∙ o.seen x hx;
+}
+
 -- ---- a row's sums: q of both words over the squares about the pixels of row y, and k of how many seen pixels these have
 
-module _ {b v : View} {r y at : ℕ} {mask : List ℕ} {m : List ℤ} {sums : SquareSums} {sizes : WindowSizes} (i : InPlane v) (hr : r ≤ 60) (less : y < v.tall)
-    (o : Own v (box_seen b mask) mask at y) (q : SumsAbout v r m (rest m (v.w * v.h)) y sums) (k : SizesAbout b v r mask y sizes) {S : Plane (Shown Sample)} (s : Sampled m v.w v.h (box_seen b mask) S) (x : ℕ)
+module _ {b v : View} {r y at : ℕ} {mask row : List ℕ} {m : List ℤ} {sums : SquareSums} {sizes : WindowSizes} (i : InPlane v) (hr : r ≤ 60) (less : y < v.tall)
+    (o : Own v (box_seen b mask) row at y) (q : SumsAbout v r m (rest m (v.w * v.h)) y sums) (k : SizesAbout b v r mask y sizes) {S : Plane (Shown Sample)} (s : Sampled m v.w v.h (box_seen b mask) S) (x : ℕ)
     (hx : x < v.wide) where
   -- the pixel lies in the plane
-  row : v.top + y < v.h
-  row = omega (arith, i.fits.rows)
+  inside : v.top + y < v.h
+  inside = omega (arith, i.fits.rows)
 
   column : v.left + x < v.w
   column = omega (arith, i.fits.columns)
@@ -85,33 +100,33 @@ module _ {b v : View} {r y at : ℕ} {mask : List ℕ} {m : List ℤ} {sums : Sq
   n_is = k.sizes.is x hx
 
   u_is : get_or sums.first x (pos 0) ≡ pos (total product_word near)
-  u_is = q.first.is x hx ∙ word_total s r (v.top + y) (v.left + x) row column product_word (cells m 0 v.w) s.products
+  u_is = q.first.is x hx ∙ word_total s r (v.top + y) (v.left + x) inside column product_word (cells m 0 v.w) s.products
 
   v_is : get_or sums.second x (pos 0) ≡ pos (total square_word near)
   v_is =
       q.second.is x hx
-      ∙ word_total s r (v.top + y) (v.left + x) row column square_word (cells (rest m (v.w * v.h)) 0 v.w)
+      ∙ word_total s r (v.top + y) (v.left + x) inside column square_word (cells (rest m (v.w * v.h)) 0 v.w)
       (λ v' u hv hu. rest_cells m (v.w * v.h) v.w v' u ∙ s.squares v' u hv hu)
 
   -- the mask shows it where the samples do
-  seen_is : seen_at mask (at + x) ≡ (S (v.top + y) (v.left + x)).seen
-  seen_is = o.seen x hx ∙ sym (s.seen (v.top + y) (v.left + x) row column)
+  seen_is : seen_at row (at + x) ≡ (S (v.top + y) (v.left + x)).seen
+  seen_is = o.seen x hx ∙ sym (s.seen (v.top + y) (v.left + x) inside column)
 
   -- so it can be fitted where it is seen, and its line is that of the rules
-  row_moments : seen_at mask (at + x) ≡ true → WordMoments (get_or sizes.ns x 0) (word sums.first x) (word sums.second x)
-  row_moments shown = rw (n_is, u_is, v_is) (window_moments s r (v.top + y) (v.left + x) row column hr (sym seen_is ∙ shown))
+  row_moments : seen_at row (at + x) ≡ true → WordMoments (get_or sizes.ns x 0) (word sums.first x) (word sums.second x)
+  row_moments shown = rw (n_is, u_is, v_is) (window_moments s r (v.top + y) (v.left + x) inside column hr (sym seen_is ∙ shown))
 
   word_line_lem : (e : ℕ) → (S (v.top + y) (v.left + x)).seen ≡ true → word_line (get_or sizes.ns x 0) (word sums.first x) (word sums.second x) e ≡ line e near
-  word_line_lem e seen = rw (n_is, u_is, v_is) (window_line s r (v.top + y) (v.left + x) row column hr seen e)
+  word_line_lem e seen = rw (n_is, u_is, v_is) (window_line s r (v.top + y) (v.left + x) inside column hr seen e)
 
-  row_line_lem : (e : ℕ) → row_line sums.first sums.second sizes.ns e mask at x ≡ drawn v r e S y x
+  row_line_lem : (e : ℕ) → row_line sums.first sums.second sizes.ns e row at x ≡ drawn v r e S y x
   row_line_lem e =
-      standing_as (seen_at mask (at + x)) (S (v.top + y) (v.left + x)).seen (word_line (get_or sizes.ns x 0) (word sums.first x) (word sums.second x) e) (line e near) seen_is (word_line_lem e)
+      standing_as (seen_at row (at + x)) (S (v.top + y) (v.left + x)).seen (word_line (get_or sizes.ns x 0) (word sums.first x) (word sums.second x) e) (line e near) seen_is (word_line_lem e)
 
 -- what the row's fit is given
-pub row_in : {b v : View} {r y at : ℕ} {mask : List ℕ} {m : List ℤ} {sums : SquareSums} {sizes : WindowSizes} {S : Plane (Shown Sample)} → InPlane v → r ≤ 60 → y < v.tall
-    → Own v (box_seen b mask) mask at y → SumsAbout v r m (rest m (v.w * v.h)) y sums → SizesAbout b v r mask y sizes → Sampled m v.w v.h (box_seen b mask) S → 2 * (v.w * v.h) + 2 * (v.wide * v.tall) ≤ length m
-    → RowIn m (2 * (v.w * v.h) + y * v.wide) (2 * (v.w * v.h) + v.wide * v.tall + y * v.wide) v.wide sums.first sums.second sizes.ns sizes.inverses mask at
+pub row_in : {b v : View} {r y at : ℕ} {mask row : List ℕ} {m : List ℤ} {sums : SquareSums} {sizes : WindowSizes} {S : Plane (Shown Sample)} → InPlane v → r ≤ 60 → y < v.tall
+    → Own v (box_seen b mask) row at y → SumsAbout v r m (rest m (v.w * v.h)) y sums → SizesAbout b v r mask y sizes → Sampled m v.w v.h (box_seen b mask) S → 2 * (v.w * v.h) + 2 * (v.wide * v.tall) ≤ length m
+    → RowIn m (2 * (v.w * v.h) + y * v.wide) (2 * (v.w * v.h) + v.wide * v.tall + y * v.wide) v.wide sums.first sums.second sizes.ns sizes.inverses row at
 row_in {v = v} {y = y} i hr less o q k s room =
     let end = row_end v.wide v.tall y less in
     record {
@@ -156,9 +171,9 @@ module _ {b v : View} {r e y : ℕ} {mask : List ℕ} {l m : List ℤ} {sums : S
   pub going_sampled : {S : Plane (Shown Sample)} → Sampled l v.w v.h (box_seen b mask) S → Sampled m v.w v.h (box_seen b mask) S
   going_sampled = sampled_still g.before long
 
-  module _ {n : List ℤ} {sums' : SquareSums} {sizes' : WindowSizes} {at : ℕ} (o : Own v (box_seen b mask) mask at y) (q : SumsAbout v r m (rest m (v.w * v.h)) y sums') (k : SizesAbout b v r mask y sizes')
+  module _ {n : List ℤ} {sums' : SquareSums} {sizes' : WindowSizes} {row : List ℕ} {at : ℕ} (o : Own v (box_seen b mask) row at y) (q : SumsAbout v r m (rest m (v.w * v.h)) y sums') (k : SizesAbout b v r mask y sizes')
       (words : SumsBefore v r m (rest m (v.w * v.h)) (y + 1) sums') (counts : SizesBefore b v r mask (y + 1) sizes')
-      (w : RowLines m n (2 * (v.w * v.h) + y * v.wide) (2 * (v.w * v.h) + v.wide * v.tall + y * v.wide) v.wide (row_line sums'.first sums'.second sizes'.ns e mask at)) where
+      (w : RowLines m n (2 * (v.w * v.h) + y * v.wide) (2 * (v.w * v.h) + v.wide * v.tall + y * v.wide) v.wide (row_line sums'.first sums'.second sizes'.ns e row at)) where
     -- the row lies behind the samples
     same : SameBefore m n (2 * (v.w * v.h))
     same = record { same = row_before m n (2 * (v.w * v.h)) v.wide v.tall y _ less w }

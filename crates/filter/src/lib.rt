@@ -39,24 +39,22 @@ fn fit_pixel(work: &mut [i64], s: usize, o: usize, n: u64, inverse: u64, u: u64,
     put_line(work, s, o, a, b);
 }
 
-// The lines of n pixels of the mask from `at` on, from the sums of both words over their windows: slopes from `slopes` on, offsets from `offsets` on. Nothing is
+// The lines of the pixels of a part of the mask, from the sums of both words over their windows: slopes from `slopes` on, offsets from `offsets` on. Nothing is
 // divided for a hidden pixel.
 fn fit_row(
     work: &mut [i64],
     slopes: usize,
     offsets: usize,
-    n: usize,
     sums: &SquareSums,
     sizes: &WindowSizes,
     e: u64,
     mask: &[u8],
-    at: usize,
 )
-    requires { RowIn work.old slopes offsets n sums.now.first sums.now.second sizes.now.ns sizes.now.inverses mask.now at × (0 < e) × (e ≤ 585225) }
-    ensures { RowLines work.old work.new slopes offsets n (row_line sums.now.first sums.now.second sizes.now.ns e mask.now at) }
+    requires { RowIn work.old slopes offsets (length mask.now) sums.now.first sums.now.second sizes.now.ns sizes.now.inverses mask.now 0 × (0 < e) × (e ≤ 585225) }
+    ensures { RowLines work.old work.new slopes offsets (length mask.now) (row_line sums.now.first sums.now.second sizes.now.ns e mask.now 0) }
 {
-    for i in 0..n {
-        if mask[at + i] == 0 {
+    for i in 0..mask.len() {
+        if mask[i] == 0 {
             put_line(work, slopes + i, offsets + i, 0, 0);
         } else {
             let u = sums.first[i] as u64;
@@ -106,16 +104,7 @@ pub fn fit(work: &mut [i64], mask: &[u8], b: View, v: View, r: usize, e: u64)
         sums.next(words, &words[plane..], v, r, y);
         let row = y * v.wide;
         let at = own_place(b, v, y);
-        fit_row(
-            work,
-            slopes + row,
-            offsets + row,
-            v.wide,
-            &sums,
-            &sizes,
-            e,
-            mask,
-            at,
-        );
+        let own = &mask[at..at + v.wide];
+        fit_row(work, slopes + row, offsets + row, &sums, &sizes, e, own);
     }
 }
