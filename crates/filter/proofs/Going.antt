@@ -1,12 +1,14 @@
--- The fit, row by row: what stands before row y, what the sums of a row are, and what the row's lines leave. M says which pixels of the plane are seen.
+-- The fit, row by row: what stands before row y, what the sums of a row are, and what the row's lines leave. The plane is the box b of the mask.
 -- Assumes nothing.
 use mathlib.Core.Path.{◌≡◌, refl, sym, ap, ◌∙◌}
-use mathlib.Core.Bool.{Bool, true, false, cond}
+use mathlib.Core.Bool.{Bool, true, false, cond, not}
 use mathlib.Core.List.{List}
 use Prim.Native.Nat.{ℕ, ◌+◌, ◌-◌, ◌*◌, ◌≤◌, ◌<◌}
-use native.Mathlib.Nat.{add-zero, add_assoc}
+use native.Mathlib.Nat.{zero-add, add_assoc}
 use native.Mathlib.Omega.{arith}
-use lib.ListN.{length, get_or}
+use lib.Dec.{eqb}
+use lib.ListN.{length, get_or, take, drop, length-drop}
+use lib.Seq.{get_or-take, get_or-drop, length-take-le}
 use lib.IntN.{ℤ, pos, nat_abs}
 use Rattle.rules.specs.Shape.{Shape}
 use Rattle.rules.specs.Window.{Plane, Shown, window, total}
@@ -18,13 +20,16 @@ use Rattle.planes.specs.Cells.{cells, SameFrom}
 use Rattle.planes.specs.Stage.{seen_at, box_seen, product_word, square_word, Sampled, term_of, Lined}
 use Rattle.planes.proofs.Shown.{row_end, row_inside, seen_at_lem}
 use Rattle.planes.proofs.Tails.{rest, rest_cells}
-use Rattle.sums.specs.Sum.{Columns, RowSums}
-use Rattle.sizes.specs.Sizes.{Table, Sizes, bit, size_at}
+use Rattle.sums.specs.declared.SquareSums.{SquareSums}
+use Rattle.sums.specs.Before.{SumsAbout, SumsBefore}
+use Rattle.sizes.specs.Sizes.{size_at}
+use Rattle.sizes.specs.declared.WindowSizes.{WindowSizes}
+use Rattle.sizes.specs.Before.{SizesAbout, SizesBefore}
 use Rattle.filter.specs.Fit.{fitted}
 use Rattle.filter.specs.Row.{WordMoments, word_line, word, RowIn, flat_line, row_line, RowLines}
 use Rattle.filter.proofs.Windows.{word_total, window_moments, window_line}
 use Rattle.filter.proofs.Lines.{Lines, lines_none, lines_more, row_before, row_after}
-use Rattle.filter.proofs.Samples.{SameBefore, sampled_still, first_columns, second_columns}
+use Rattle.filter.proofs.Samples.{SameBefore, sampled_still, sums_still}
 
 -- ---- the lines of seen and hidden pixels
 
@@ -51,6 +56,10 @@ drawn v r e S y x = standing (part v.top v.left (fitted v.w v.h r e S) y x)
 
 -- ---- the row's own pixels in the mask
 
+-- a part of a list is as long as it says
+pub part_long : (l : List ℕ) (a n : ℕ) → a + n ≤ length l → length (take (a + n - a) (drop a l)) ≡ n
+part_long l a n h = length-take-le (a + n - a) (drop a l) (simp length-drop (omega arith)) ∙ omega arith
+
 -- those of row y, from place `at` on: each is seen or hidden as the plane's pixel is
 pub record Own (v : View) (M : Plane Bool) (mask : List ℕ) (at y : ℕ) : Type 0 where
   pub room : at + v.wide ≤ length mask
@@ -62,19 +71,23 @@ own {b} {v} {mask} i f y less at e = record {
   seen = λ x hx. rw e (ap (seen_at mask) (add_assoc (row_start b (v.top + y)) v.left x) ∙ seen_at_lem b mask (v.top + y) (v.left + x));
 }
 
--- ---- a row's sums
+-- and as a part of its own
+pub own_part : {v : View} {M : Plane Bool} {mask : List ℕ} {y : ℕ} (at : ℕ) → Own v M mask at y → Own v M (take (at + v.wide - at) (drop at mask)) 0 y
+own_part {v} {mask = mask} at o = record {
+  room = omega (arith, part_long mask at v.wide o.room);
+  seen = λ x hx.
+      ap (λ (m : ℕ). not (eqb m 0)) (get_or-take (at + v.wide - at) (drop at mask) (0 + x) 0 (omega arith) ∙ get_or-drop at mask (0 + x) 0 ∙ ap (λ (k : ℕ). get_or mask (at + k) 0) (zero-add x))
+      ∙ o.seen x hx;
+}
 
--- of both words over the squares about the pixels of row y, how many seen pixels these have, and the reciprocals
-pub record Summed (v : View) (r y : ℕ) (M : Plane Bool) (m us vs : List ℤ) (ns inverses : List ℕ) : Type 0 where
-  pub sizes : Sizes v r M (v.top + y) ns inverses
-  pub first : RowSums us (cells m 0 v.w) v.w v.h r (v.top + y) v.left v.wide
-  pub second : RowSums vs (cells (rest m (v.w * v.h)) 0 v.w) v.w v.h r (v.top + y) v.left v.wide
+-- ---- a row's sums: q of both words over the squares about the pixels of row y, and k of how many seen pixels these have
 
-module _ {v : View} {r y at : ℕ} {M : Plane Bool} {m us vs : List ℤ} {ns inverses mask : List ℕ} (i : InPlane v) (hr : r ≤ 60) (less : y < v.tall) (o : Own v M mask at y)
-    (q : Summed v r y M m us vs ns inverses) {S : Plane (Shown Sample)} (s : Sampled m v.w v.h M S) (x : ℕ) (hx : x < v.wide) where
+module _ {b v : View} {r y at : ℕ} {mask row : List ℕ} {m : List ℤ} {sums : SquareSums} {sizes : WindowSizes} (i : InPlane v) (hr : r ≤ 60) (less : y < v.tall)
+    (o : Own v (box_seen b mask) row at y) (q : SumsAbout v r m (rest m (v.w * v.h)) y sums) (k : SizesAbout b v r mask y sizes) {S : Plane (Shown Sample)} (s : Sampled m v.w v.h (box_seen b mask) S) (x : ℕ)
+    (hx : x < v.wide) where
   -- the pixel lies in the plane
-  row : v.top + y < v.h
-  row = omega (arith, i.fits.rows)
+  inside : v.top + y < v.h
+  inside = omega (arith, i.fits.rows)
 
   column : v.left + x < v.w
   column = omega (arith, i.fits.columns)
@@ -83,124 +96,104 @@ module _ {v : View} {r y at : ℕ} {M : Plane Bool} {m us vs : List ℤ} {ns inv
   near = let z : Shape = record { w = v.w; h = v.h } in window z r S (v.top + y) (v.left + x)
 
   -- what has been read is its window's size, and the sums of words over it
-  n_is : get_or ns x 0 ≡ size_at v.w v.h r M (v.top + y) (v.left + x)
-  n_is = q.sizes.is x hx
+  n_is : get_or sizes.ns x 0 ≡ size_at v.w v.h r (box_seen b mask) (v.top + y) (v.left + x)
+  n_is = k.sizes.is x hx
 
-  u_is : get_or us x (pos 0) ≡ pos (total product_word near)
-  u_is = q.first.is x hx ∙ word_total s r (v.top + y) (v.left + x) row column product_word (cells m 0 v.w) s.products
+  u_is : get_or sums.first x (pos 0) ≡ pos (total product_word near)
+  u_is = q.first.is x hx ∙ word_total s r (v.top + y) (v.left + x) inside column product_word (cells m 0 v.w) s.products
 
-  v_is : get_or vs x (pos 0) ≡ pos (total square_word near)
+  v_is : get_or sums.second x (pos 0) ≡ pos (total square_word near)
   v_is =
       q.second.is x hx
-      ∙ word_total s r (v.top + y) (v.left + x) row column square_word (cells (rest m (v.w * v.h)) 0 v.w)
+      ∙ word_total s r (v.top + y) (v.left + x) inside column square_word (cells (rest m (v.w * v.h)) 0 v.w)
       (λ v' u hv hu. rest_cells m (v.w * v.h) v.w v' u ∙ s.squares v' u hv hu)
 
   -- the mask shows it where the samples do
-  seen_is : seen_at mask (at + x) ≡ (S (v.top + y) (v.left + x)).seen
-  seen_is = o.seen x hx ∙ sym (s.seen (v.top + y) (v.left + x) row column)
+  seen_is : seen_at row (at + x) ≡ (S (v.top + y) (v.left + x)).seen
+  seen_is = o.seen x hx ∙ sym (s.seen (v.top + y) (v.left + x) inside column)
 
   -- so it can be fitted where it is seen, and its line is that of the rules
-  row_moments : seen_at mask (at + x) ≡ true → WordMoments (get_or ns x 0) (word us x) (word vs x)
-  row_moments shown = rw (n_is, u_is, v_is) (window_moments s r (v.top + y) (v.left + x) row column hr (sym seen_is ∙ shown))
+  row_moments : seen_at row (at + x) ≡ true → WordMoments (get_or sizes.ns x 0) (word sums.first x) (word sums.second x)
+  row_moments shown = rw (n_is, u_is, v_is) (window_moments s r (v.top + y) (v.left + x) inside column hr (sym seen_is ∙ shown))
 
-  word_line_lem : (e : ℕ) → (S (v.top + y) (v.left + x)).seen ≡ true → word_line (get_or ns x 0) (word us x) (word vs x) e ≡ line e near
-  word_line_lem e seen = rw (n_is, u_is, v_is) (window_line s r (v.top + y) (v.left + x) row column hr seen e)
+  word_line_lem : (e : ℕ) → (S (v.top + y) (v.left + x)).seen ≡ true → word_line (get_or sizes.ns x 0) (word sums.first x) (word sums.second x) e ≡ line e near
+  word_line_lem e seen = rw (n_is, u_is, v_is) (window_line s r (v.top + y) (v.left + x) inside column hr seen e)
 
-  row_line_lem : (e : ℕ) → row_line us vs ns e mask at x ≡ drawn v r e S y x
+  row_line_lem : (e : ℕ) → row_line sums.first sums.second sizes.ns e row at x ≡ drawn v r e S y x
   row_line_lem e =
-      standing_as (seen_at mask (at + x)) (S (v.top + y) (v.left + x)).seen (word_line (get_or ns x 0) (word us x) (word vs x) e) (line e near) seen_is (word_line_lem e)
-
--- room for the sums, sizes and reciprocals of a row of n pixels
-pub record Rooms (n : ℕ) (us vs : List ℤ) (ns inverses : List ℕ) : Type 0 where
-  pub us_long : n ≤ length us
-  pub vs_long : n ≤ length vs
-  pub ns_long : n ≤ length ns
-  pub inverses_long : n ≤ length inverses
+      standing_as (seen_at row (at + x)) (S (v.top + y) (v.left + x)).seen (word_line (get_or sizes.ns x 0) (word sums.first x) (word sums.second x) e) (line e near) seen_is (word_line_lem e)
 
 -- what the row's fit is given
-pub row_in : {v : View} {r y at : ℕ} {M : Plane Bool} {m us vs : List ℤ} {ns inverses mask : List ℕ} {S : Plane (Shown Sample)} → InPlane v → r ≤ 60 → y < v.tall
-    → Own v M mask at y → Summed v r y M m us vs ns inverses → Sampled m v.w v.h M S → 2 * (v.w * v.h) + 2 * (v.wide * v.tall) ≤ length m → Rooms v.wide us vs ns inverses
-    → RowIn m (2 * (v.w * v.h) + y * v.wide) (2 * (v.w * v.h) + v.wide * v.tall + y * v.wide) v.wide us vs ns inverses mask at
-row_in {v} {r} {y} i hr less o q s room long =
+pub row_in : {b v : View} {r y at : ℕ} {mask row : List ℕ} {m : List ℤ} {sums : SquareSums} {sizes : WindowSizes} {S : Plane (Shown Sample)} → InPlane v → r ≤ 60 → y < v.tall
+    → Own v (box_seen b mask) row at y → SumsAbout v r m (rest m (v.w * v.h)) y sums → SizesAbout b v r mask y sizes → Sampled m v.w v.h (box_seen b mask) S → 2 * (v.w * v.h) + 2 * (v.wide * v.tall) ≤ length m
+    → RowIn m (2 * (v.w * v.h) + y * v.wide) (2 * (v.w * v.h) + v.wide * v.tall + y * v.wide) v.wide sums.first sums.second sizes.ns sizes.inverses row at
+row_in {v = v} {y = y} i hr less o q k s room =
     let end = row_end v.wide v.tall y less in
     record {
       apart = omega arith;
       room = omega arith;
-      us_long = long.us_long;
-      vs_long = long.vs_long;
-      ns_long = long.ns_long;
-      inverses_long = long.inverses_long;
+      us_long = q.first_long;
+      vs_long = q.second_long;
+      ns_long = k.ns_long;
+      inverses_long = k.inverses_long;
       mask_long = o.room;
-      us_whole = λ x hx. let e = u_is i hr less o q s x hx in e ∙ ap (λ (z : ℤ). pos (nat_abs z)) (sym e);
-      vs_whole = λ x hx. let e = v_is i hr less o q s x hx in e ∙ ap (λ (z : ℤ). pos (nat_abs z)) (sym e);
-      moments = λ x hx. row_moments i hr less o q s x hx;
-      over = q.sizes.over;
+      us_whole = λ x hx. let e = u_is i hr less o q k s x hx in e ∙ ap (λ (z : ℤ). pos (nat_abs z)) (sym e);
+      vs_whole = λ x hx. let e = v_is i hr less o q k s x hx in e ∙ ap (λ (z : ℤ). pos (nat_abs z)) (sym e);
+      moments = λ x hx. row_moments i hr less o q k s x hx;
+      over = k.sizes.over;
     }
 
 -- ---- before row y
 
--- l was given and m stands there now; the columns' sums, those of the mask's ones too, and the sizes are those that the row asks for
-pub record Going (v : View) (r e : ℕ) (M : Plane Bool) (l m us vs counts : List ℤ) (table ns inverses : List ℕ) (y : ℕ) : Type 0 where
+-- l was given and m stands there now; the sums and the sizes are those that the row asks for
+pub record Going (b v : View) (r e : ℕ) (mask : List ℕ) (l m : List ℤ) (sums : SquareSums) (sizes : WindowSizes) (y : ℕ) : Type 0 where
   pub before : SameBefore l m (2 * (v.w * v.h))
   pub after : SameFrom l m (2 * (v.w * v.h) + 2 * (v.wide * v.tall))
-  pub lines : (S : Plane (Shown Sample)) → Sampled l v.w v.h M S → Lines m (2 * (v.w * v.h)) v.wide v.tall (drawn v r e S) y
-  pub first : Columns us (cells m 0 v.w) v.w v.h r (v.top + y)
-  pub second : Columns vs (cells (rest m (v.w * v.h)) 0 v.w) v.w v.h r (v.top + y)
-  pub counted : Columns counts (λ u x. bit (M u x)) v.w v.h r (v.top + y)
-  pub known_table : Table table
-  pub known_sizes : 0 < y → Sizes v r M (v.top + (y - 1)) ns inverses
+  pub lines : (S : Plane (Shown Sample)) → Sampled l v.w v.h (box_seen b mask) S → Lines m (2 * (v.w * v.h)) v.wide v.tall (drawn v r e S) y
+  pub words : SumsBefore v r m (rest m (v.w * v.h)) y sums
+  pub counts : SizesBefore b v r mask y sizes
 
-module _ {v : View} {r e : ℕ} {M : Plane Bool} {l us vs counts : List ℤ} {table ns inverses : List ℕ} where
-  -- nothing has been written yet
-  pub going_start : Columns us (cells l 0 v.w) v.w v.h r v.top → Columns vs (cells (rest l (v.w * v.h)) 0 v.w) v.w v.h r v.top
-      → Columns counts (λ u x. bit (M u x)) v.w v.h r v.top → Table table → Going v r e M l l us vs counts table ns inverses 0
-  going_start a b c t = record {
-    before = record { same = λ k h. refl };
-    after = record { same = λ k h. refl };
-    lines = λ S s. lines_none _ _ _ _ _;
-    first = rw (add-zero v.top) a;
-    second = rw (add-zero v.top) b;
-    counted = rw (add-zero v.top) c;
-    known_table = t;
-    known_sizes = λ h. absurd (omega arith);
-  }
+-- nothing has been written yet
+pub going_start : {b v : View} {r e : ℕ} {mask : List ℕ} {l : List ℤ} {sums : SquareSums} {sizes : WindowSizes} → SumsBefore v r l (rest l (v.w * v.h)) 0 sums
+    → SizesBefore b v r mask 0 sizes → Going b v r e mask l l sums sizes 0
+going_start words counts = record {
+  before = record { same = λ k h. refl };
+  after = record { same = λ k h. refl };
+  lines = λ S s. lines_none _ _ _ _ _;
+  words = words;
+  counts = counts;
+}
 
 -- row y has been summed and its lines have been written: m became n
-module _ {v : View} {r e y : ℕ} {M : Plane Bool} {l m us vs counts : List ℤ} {table ns inverses : List ℕ} (g : Going v r e M l m us vs counts table ns inverses y) (i : InPlane v)
-    (hr : r ≤ 60) (less : y < v.tall) (long : length m ≡ length l) where
+module _ {b v : View} {r e y : ℕ} {mask : List ℕ} {l m : List ℤ} {sums : SquareSums} {sizes : WindowSizes} (g : Going b v r e mask l m sums sizes y) (i : InPlane v) (hr : r ≤ 60)
+    (less : y < v.tall) (long : length m ≡ length l) where
   -- the samples stand as they did
-  pub going_sampled : {S : Plane (Shown Sample)} → Sampled l v.w v.h M S → Sampled m v.w v.h M S
+  pub going_sampled : {S : Plane (Shown Sample)} → Sampled l v.w v.h (box_seen b mask) S → Sampled m v.w v.h (box_seen b mask) S
   going_sampled = sampled_still g.before long
 
-  module _ {n us' vs' counts' one two : List ℤ} {table' ns' inverses' mask : List ℕ} {at : ℕ} (o : Own v M mask at y) (q : Summed v r y M m one two ns' inverses') (t : Table table')
-      (first : Columns us' (cells m 0 v.w) v.w v.h r (v.top + y + 1)) (second : Columns vs' (cells (rest m (v.w * v.h)) 0 v.w) v.w v.h r (v.top + y + 1))
-      (counted : Columns counts' (λ u x. bit (M u x)) v.w v.h r (v.top + y + 1))
-      (w : RowLines m n (2 * (v.w * v.h) + y * v.wide) (2 * (v.w * v.h) + v.wide * v.tall + y * v.wide) v.wide (row_line one two ns' e mask at)) where
+  module _ {n : List ℤ} {sums' : SquareSums} {sizes' : WindowSizes} {row : List ℕ} {at : ℕ} (o : Own v (box_seen b mask) row at y) (q : SumsAbout v r m (rest m (v.w * v.h)) y sums') (k : SizesAbout b v r mask y sizes')
+      (words : SumsBefore v r m (rest m (v.w * v.h)) (y + 1) sums') (counts : SizesBefore b v r mask (y + 1) sizes')
+      (w : RowLines m n (2 * (v.w * v.h) + y * v.wide) (2 * (v.w * v.h) + v.wide * v.tall + y * v.wide) v.wide (row_line sums'.first sums'.second sizes'.ns e row at)) where
     -- the row lies behind the samples
     same : SameBefore m n (2 * (v.w * v.h))
     same = record { same = row_before m n (2 * (v.w * v.h)) v.wide v.tall y _ less w }
 
     -- one row more
-    pub going_more : Going v r e M l n us' vs' counts' table' ns' inverses' (y + 1)
-    going_more =
-        let last : y + 1 - 1 ≡ y = omega arith in
-        record {
-          before = record { same = λ k h. same.same k h ∙ g.before.same k h };
-          after = record { same = λ k h. row_after m n (2 * (v.w * v.h)) v.wide v.tall y _ less w k h ∙ g.after.same k h };
-          lines = λ S s.
-              lines_more m n (2 * (v.w * v.h)) v.wide v.tall y _ less w (drawn v r e S) (λ x hx. row_line_lem i hr less o q (going_sampled s) x hx e) (g.lines S s);
-          first = rw (sym (add_assoc v.top y 1)) (first_columns same first);
-          second = rw (sym (add_assoc v.top y 1)) (second_columns same second);
-          counted = rw (sym (add_assoc v.top y 1)) counted;
-          known_table = t;
-          known_sizes = λ h. rw last q.sizes;
-        }
+    pub going_more : Going b v r e mask l n sums' sizes' (y + 1)
+    going_more = record {
+      before = record { same = λ p h. same.same p h ∙ g.before.same p h };
+      after = record { same = λ p h. row_after m n (2 * (v.w * v.h)) v.wide v.tall y _ less w p h ∙ g.after.same p h };
+      lines = λ S s.
+          lines_more m n (2 * (v.w * v.h)) v.wide v.tall y _ less w (drawn v r e S) (λ x hx. row_line_lem i hr less o q k (going_sampled s) x hx e) (g.lines S s);
+      words = sums_still same words;
+      counts = counts;
+    }
 
 -- after the last row
-pub going_end : {v : View} {r e y : ℕ} {M : Plane Bool} {l m us vs counts : List ℤ} {table ns inverses : List ℕ} → InPlane v → Going v r e M l m us vs counts table ns inverses y
-    → v.tall ≤ y → 2 * (v.w * v.h) + 2 * (v.wide * v.tall) ≤ length m → (S : Plane (Shown Sample)) → Sampled l v.w v.h M S
-    → Lined m (2 * (v.w * v.h)) v.wide v.tall (part v.top v.left M) (part v.top v.left (fitted v.w v.h r e S))
-going_end {v} {r} {e} i g done room S s =
+pub going_end : {b v : View} {r e y : ℕ} {mask : List ℕ} {l m : List ℤ} {sums : SquareSums} {sizes : WindowSizes} → InPlane v → Going b v r e mask l m sums sizes y → v.tall ≤ y
+    → 2 * (v.w * v.h) + 2 * (v.wide * v.tall) ≤ length m → (S : Plane (Shown Sample)) → Sampled l v.w v.h (box_seen b mask) S
+    → Lined m (2 * (v.w * v.h)) v.wide v.tall (part v.top v.left (box_seen b mask)) (part v.top v.left (fitted v.w v.h r e S))
+going_end {v = v} {r = r} {e = e} i g done room S s =
     let f = g.lines S s in
     let F = part v.top v.left (fitted v.w v.h r e S) in
     record {

@@ -15,7 +15,9 @@ use Rattle.planes.specs.View.{InPlane}
 use Rattle.planes.specs.Cells.{cells}
 use Rattle.planes.specs.Stage.{product_word, square_word, word_of, Sampled}
 use Rattle.planes.proofs.Tails.{rest, rest_cells}
-use Rattle.sums.specs.Sum.{value_most, Summable, Columns}
+use Rattle.sums.specs.Sum.{value_most, Summable}
+use Rattle.sums.specs.declared.SquareSums.{SquareSums}
+use Rattle.sums.specs.Before.{SumsBefore}
 use Rattle.sums.proofs.Lent.{summable_rest, columns_as}
 
 -- ---- what the sums are given
@@ -72,11 +74,13 @@ module _ {l m : List ℤ} {w h : ℕ} (k : SameBefore l m (2 * (w * h))) where
   }
 
 -- the columns of both planes
-module _ {l m c : List ℤ} {w h r y : ℕ} (k : SameBefore l m (2 * (w * h))) where
-  pub first_columns : Columns c (cells l 0 w) w h r y → Columns c (cells m 0 w) w h r y
-  first_columns = columns_as (cells l 0 w) (cells m 0 w) (first_same k)
-
-  pub second_columns : Columns c (cells (rest l (w * h)) 0 w) w h r y → Columns c (cells (rest m (w * h)) 0 w) w h r y
-  second_columns =
-      columns_as (cells (rest l (w * h)) 0 w) (cells (rest m (w * h)) 0 w)
-      (λ v u hv hu. rest_cells m (w * h) w v u ∙ second_same k v u hv hu ∙ sym (rest_cells l (w * h) w v u))
+pub sums_still : {l m : List ℤ} {v : View} {r y : ℕ} {s : SquareSums} → SameBefore l m (2 * (v.w * v.h)) → SumsBefore v r l (rest l (v.w * v.h)) y s
+    → SumsBefore v r m (rest m (v.w * v.h)) y s
+sums_still {l} {m} {v} k s =
+    let plane = v.w * v.h in
+    record {
+      first = columns_as (cells l 0 v.w) (cells m 0 v.w) (first_same k) s.first;
+      second = columns_as
+          (cells (rest l plane) 0 v.w) (cells (rest m plane) 0 v.w)
+          (λ u x hu hx. rest_cells m plane v.w u x ∙ second_same k u x hu hx ∙ sym (rest_cells l plane v.w u x)) s.second;
+    }

@@ -14,8 +14,8 @@ ghost use Rattle.filter.specs.Row.{RowIn, WordMoments, word_line, row_line, RowL
 
 use pixel::{offset, slope};
 use planes::{View, row_start};
-use sizes::resize;
-use sums::{begin, next};
+use sizes::WindowSizes;
+use sums::SquareSums;
 
 // A line: its slope at place s, its offset at place o.
 fn put_line(work: &mut [i64], s: usize, o: usize, a: i64, b: i64)
@@ -39,31 +39,36 @@ fn fit_pixel(work: &mut [i64], s: usize, o: usize, n: u64, inverse: u64, u: u64,
     put_line(work, s, o, a, b);
 }
 
-// The lines of n pixels of the mask from `at` on, from the sums of both words over their windows: slopes from `slopes` on, offsets from `offsets` on. Nothing is
+// The lines of the pixels of a part of the mask, from the sums of both words over their windows: slopes from `slopes` on, offsets from `offsets` on. Nothing is
 // divided for a hidden pixel.
 fn fit_row(
     work: &mut [i64],
     slopes: usize,
     offsets: usize,
-    n: usize,
-    products: &[i64],
-    squares: &[i64],
-    ns: &[u64],
-    inverses: &[u64],
+    sums: &SquareSums,
+    sizes: &WindowSizes,
     e: u64,
     mask: &[u8],
-    at: usize,
 )
-    requires { RowIn work.old slopes offsets n products.now squares.now ns.now inverses.now mask.now at × (0 < e) × (e ≤ 585225) }
-    ensures { RowLines work.old work.new slopes offsets n (row_line products.now squares.now ns.now e mask.now at) }
+    requires { RowIn work.old slopes offsets (length mask.now) sums.now.first sums.now.second sizes.now.ns sizes.now.inverses mask.now 0 × (0 < e) × (e ≤ 585225) }
+    ensures { RowLines work.old work.new slopes offsets (length mask.now) (row_line sums.now.first sums.now.second sizes.now.ns e mask.now 0) }
 {
-    for i in 0..n {
-        if mask[at + i] == 0 {
+    for i in 0..mask.len() {
+        if mask[i] == 0 {
             put_line(work, slopes + i, offsets + i, 0, 0);
         } else {
-            let u = products[i] as u64;
-            let v = squares[i] as u64;
-            fit_pixel(work, slopes + i, offsets + i, ns[i], inverses[i], u, v, e);
+            let u = sums.first[i] as u64;
+            let v = sums.second[i] as u64;
+            fit_pixel(
+                work,
+                slopes + i,
+                offsets + i,
+                sizes.ns[i],
+                sizes.inverses[i],
+                u,
+                v,
+                e,
+            );
         }
     }
 }
@@ -85,60 +90,21 @@ pub fn fit(work: &mut [i64], mask: &[u8], b: View, v: View, r: usize, e: u64)
         → Lined work.new (2 * (v.w * v.h)) v.wide v.tall (part v.top v.left (box_seen b mask.now)) (part v.top v.left (fitted v.w v.h r e S)) }
     ensures rest { SameFrom work.old work.new (2 * (v.w * v.h) + 2 * (v.wide * v.tall)) }
 {
-    let mut products = [0i64; 1152];
-    let mut squares = [0i64; 1152];
-    let mut one = [0i64; 1024];
-    let mut two = [0i64; 1024];
-    let mut ns = [0u64; 1024];
-    let mut over = [0u64; 1024];
-    let mut table = [0u64; 14642];
-    let mut counts = [0i64; 1152];
-    let wide = v.wide;
-    let tall = v.tall;
     let plane = v.w * v.h;
     let slopes = 2 * plane;
-    let offsets = slopes + wide * tall;
-    sizes::begin(&mut counts[..], mask, b, v, r);
-    begin(&mut products[..], &work[..], v, r);
-    begin(&mut squares[..], &work[plane..], v, r);
-    for y in 0..tall {
-        resize(
-            mask,
-            b,
-            v,
-            r,
-            y,
-            &mut counts[..],
-            &mut table[..],
-            &mut ns[..],
-            &mut over[..],
-        );
+    let offsets = slopes + v.wide * v.tall;
+    let mut sizes = WindowSizes::new();
+    let mut sums = SquareSums::new();
+    sizes.begin(mask, b, v, r);
+    let words = &work[..];
+    sums.begin(words, &words[plane..], v, r);
+    for y in 0..v.tall {
+        sizes.resize(mask, b, v, r, y);
         let words = &work[..];
-        next(
-            &mut products[..],
-            &mut squares[..],
-            words,
-            &words[plane..],
-            v,
-            r,
-            y,
-            &mut one[..],
-            &mut two[..],
-        );
-        let first = slopes + y * wide;
-        let second = offsets + y * wide;
-        fit_row(
-            work,
-            first,
-            second,
-            wide,
-            &one[..],
-            &two[..],
-            &ns[..],
-            &over[..],
-            e,
-            mask,
-            own_place(b, v, y),
-        );
+        sums.next(words, &words[plane..], v, r, y);
+        let row = y * v.wide;
+        let at = own_place(b, v, y);
+        let own = &mask[at..at + v.wide];
+        fit_row(work, slopes + row, offsets + row, &sums, &sizes, e, own);
     }
 }

@@ -1,6 +1,5 @@
 -- The table of reciprocals before any is known, and one more size of a row. Assumes nothing.
 use mathlib.Core.Path.{◌≡◌}
-use mathlib.Core.Logic.{inl}
 use mathlib.Core.List.{List}
 use Prim.Native.Nat.{ℕ, ◌+◌, ◌<◌, max}
 use native.Mathlib.Omega.{arith}
@@ -13,7 +12,7 @@ use Rattle.sizes.specs.Sizes.{Table, Count, Counted, span_at}
 
 -- no reciprocal is known yet
 pub table_none : Table (replicate 14642 0)
-table_none = record { long = length-replicate {A = ℕ} 14642 0; is = λ n some few. inl (get_or-replicate {A = ℕ} 14642 n 0 0 (omega arith)) }
+table_none = record { long = length-replicate {A = ℕ} 14642 0; is = λ n some few known. absurd (omega (arith, get_or-replicate {A = ℕ} 14642 n 0 0 (omega arith))) }
 
 -- ---- a row
 

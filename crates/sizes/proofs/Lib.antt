@@ -4,3 +4,4 @@ pub mod Rows
 pub mod Counts
 pub mod Sized
 pub mod Spanned
+pub mod Before

@@ -1,5 +1,5 @@
 -- Sizes of the windows about a row's pixels, and their reciprocals. Assumes nothing.
-use Rattle.std.specs.Prelude.{◌≡◌, ◌⊎◌, Bool, not, cond, List, map, ℕ, ◌+◌, ◌-◌, ◌*◌, ◌≤◌, ◌<◌, max, eqb, get_or, length, ℤ, pos, nat_abs, ◌+ℤ◌}
+use Rattle.std.specs.Prelude.{◌≡◌, Bool, not, cond, List, map, ℕ, ◌+◌, ◌-◌, ◌*◌, ◌≤◌, ◌<◌, max, eqb, get_or, length, ℤ, pos, nat_abs, ◌+ℤ◌}
 use Rattle.rules.specs.Window.{Plane, square, total}
 use Rattle.rules.specs.Fold.{Σ}
 use Rattle.planes.specs.declared.View.{View}
@@ -11,7 +11,7 @@ use Rattle.pixel.specs.Over.{Over, parts}
 -- entry n of the table is 0, where it is not known yet, or a reciprocal of n. A square has at most 121 by 121 pixels
 pub record Table (l : List ℕ) : Type 0 where
   pub long : length l ≡ 14642
-  pub is : (n : ℕ) → 0 < n → n ≤ 14641 → (get_or l n 0 ≡ 0) ⊎ Over 1 n parts (get_or l n 0)
+  pub is : (n : ℕ) → 0 < n → n ≤ 14641 → 0 < get_or l n 0 → Over 1 n parts (get_or l n 0)
 
 -- ---- what is counted
 

@@ -6,7 +6,7 @@
 ghost use Rattle.std.specs.Prelude.{◌≡◌, true, ℕ, ◌+◌, ◌-◌, ◌≤◌, ◌<◌, max, length, get_or, pos, nat_abs};
 ghost use Rattle.planes.specs.View.{InPlane, Framed, row_start};
 ghost use Rattle.planes.specs.Stage.{box_seen};
-ghost use Rattle.sums.specs.Sum.{kept, Columns, Spannable};
+ghost use Rattle.sums.specs.Sum.{kept, Columns, Blank, Spannable};
 ghost use Rattle.pixel.specs.Over.{Over, parts};
 ghost use Rattle.sizes.specs.Bits.{row_ends, row_stands};
 ghost use Rattle.sizes.specs.Sizes.{Table, Sizes, Unchanged, Row, shows, bit_plane, bits_of, Count, span_at, Counted, Countable, Inverted};
@@ -60,14 +60,6 @@ impl<'a> Source for Seen<'a> {
     fn read(self, at: usize, x: usize) -> i64 {
         seen_or(self.mask[at + x], 1, 0)
     }
-}
-
-// The columns before the view's first row. They hold 0 before.
-pub fn begin(cols: &mut [i64], mask: &[u8], b: View, v: View, r: usize)
-    requires { InPlane v × Framed b v mask.now × (r ≤ 60) × (length cols.old ≡ kept) × ((k : ℕ) → get_or cols.old k (pos 0) ≡ pos 0) }
-    ensures { Columns cols.new (bit_plane b mask.now) v.w v.h r v.top }
-{
-    begin_of(cols, Seen { mask, b }, v, r);
 }
 
 // Whether the columns before row y + 1 of the box are those before row y: one row enters and another leaves, and they are seen alike.
@@ -129,30 +121,63 @@ fn inverse_row(table: &mut [u64], m: usize, ns: &[u64], inverses: &mut [u64])
     }
 }
 
-// The sizes of the windows of radius r about the pixels of the view's row y, and their reciprocals, and the columns from before that row to before the next.
-// Those of the row before are there already.
-pub fn resize(
-    mask: &[u8],
-    b: View,
-    v: View,
-    r: usize,
-    y: usize,
-    cols: &mut [i64],
-    table: &mut [u64],
-    ns: &mut [u64],
-    inverses: &mut [u64],
-)
-    requires in_plane { InPlane v × Framed b v mask.now × (r ≤ 60) × (y < v.tall) × Table table.old × (v.wide ≤ length ns.old) × (v.wide ≤ length inverses.old) }
-    requires columns_2 { Columns cols.old (bit_plane b mask.now) v.w v.h r (v.top + y) × (0 < y → Sizes v r (box_seen b mask.now) (v.top + (y - 1)) ns.old inverses.old) }
-    ensures columns { Columns cols.new (bit_plane b mask.now) v.w v.h r (v.top + y + 1) }
-    ensures table { Table table.new }
-    ensures sizes { Sizes v r (box_seen b mask.now) (v.top + y) ns.new inverses.new }
-{
-    let at = v.top + y;
-    if 0 < y && unchanged(mask, b, v, r, at) {
-        return;
+// The sizes of the windows of radius r about the pixels of the view's row y, and their reciprocals, with what they are made of: the columns of the mask, and a table
+// of the reciprocals that were met.
+#[derive(Drop)]
+pub struct WindowSizes {
+    columns: [i64; 1152],
+    table: [u64; 14642],
+    pub ns: [u64; 1024],
+    pub inverses: [u64; 1024],
+    ghost known: { Table table },
+}
+
+impl WindowSizes {
+    ghost use Rattle.sizes.specs.Before.{SizesBefore, SizesAbout};
+
+    pub fn new() -> Self
+        ensures { Blank result.columns }
+    {
+        WindowSizes {
+            columns: [0; 1152],
+            table: [0; 14642],
+            ns: [0; 1024],
+            inverses: [0; 1024],
+        }
     }
-    advance(cols, Seen { mask, b }, v, r, at);
-    size_row(cols, v.left, 2 * r + 1, v.wide, ns);
-    inverse_row(table, v.wide, ns, inverses);
+
+    // The columns before the view's first row.
+    pub fn begin(&mut self, mask: &[u8], b: View, v: View, r: usize)
+        requires { InPlane v × Framed b v mask.now × (r ≤ 60) × Blank self.old.columns }
+        ensures { SizesBefore b v r mask.now 0 self.new }
+    {
+        begin_of(&mut self.columns[..], Seen { mask, b }, v, r);
+    }
+
+    // The sizes and reciprocals of the view's row y, and the columns from before that row to before the next. Those of the row before are there already.
+    pub fn resize(&mut self, mask: &[u8], b: View, v: View, r: usize, y: usize)
+        requires in_plane { InPlane v × Framed b v mask.now × (r ≤ 60) × (y < v.tall) }
+        requires before { SizesBefore b v r mask.now y self.old }
+        ensures before { SizesBefore b v r mask.now (y + 1) self.new }
+        ensures about { SizesAbout b v r mask.now y self.new }
+    {
+        let at = v.top + y;
+        if 0 < y && unchanged(mask, b, v, r, at) {
+            return;
+        }
+        advance(&mut self.columns[..], Seen { mask, b }, v, r, at);
+        size_row(
+            &self.columns[..],
+            v.left,
+            2 * r + 1,
+            v.wide,
+            &mut self.ns[..],
+        );
+        inverse_row(
+            &mut self.table[..],
+            v.wide,
+            &self.ns[..],
+            &mut self.inverses[..],
+        );
+    }
 }

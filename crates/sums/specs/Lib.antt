@@ -1,2 +1,3 @@
 -- The definitions that the contracts of the sums cite.
 pub mod Sum
+pub mod Before

@@ -41,6 +41,11 @@ range_sum f a b = Σ ◌+ℤ◌ (pos 0) a (b - a) f
 abbrev pub kept : ℕ
 kept = 1152
 
+-- columns of nothing
+pub record Blank (cols : List ℤ) : Type 0 where
+  pub long : length cols ≡ kept
+  pub zero : (k : ℕ) → get_or cols k (pos 0) ≡ pos 0
+
 -- the columns of the plane f of w by h before row y: of column x the sum over the rows that the squares of radius r about row y - 1 have (before row 0,
 -- over the rows above row r), at place r + 1 + x. All other places hold 0
 pub record Columns (cols : List ℤ) (f : Plane ℤ) (w h r y : ℕ) : Type 0 where

@@ -4,7 +4,7 @@
 ghost use Rattle.std.specs.Prelude.{◌≡◌, List, ℕ, ◌+◌, ◌*◌, ◌≤◌, ◌<◌, length, get_or, ℤ, pos};
 ghost use Rattle.rules.specs.Window.{Plane};
 ghost use Rattle.planes.specs.Cells.{cells};
-ghost use Rattle.sums.specs.Sum.{Summable, Readable, Columns, RowSums, kept, entry, range_sum, RowIn, Rewritten, entered, left, slid, Spannable, Spans, cells_row};
+ghost use Rattle.sums.specs.Sum.{Summable, Readable, Blank, Columns, RowSums, kept, entry, range_sum, RowIn, Rewritten, entered, left, slid, Spannable, Spans, cells_row};
 
 use planes::View;
 
@@ -106,7 +106,7 @@ fn slide<S: Source + Copy>(cols: &mut [i64], to: usize, source: S, at: usize, ol
 
 // The columns before the box's first row. They hold 0 before.
 pub fn begin_of<S: Source + Copy>(cols: &mut [i64], source: S, v: View, r: usize)
-    requires { Readable (S.plane source) (S.wide source) (S.has_row source) v r × (length cols.old ≡ kept) × ((k : ℕ) → get_or cols.old k (pos 0) ≡ pos 0) }
+    requires { Readable (S.plane source) (S.wide source) (S.has_row source) v r × Blank cols.old }
     ensures { Columns cols.new (S.plane source) v.w v.h r v.top }
 {
     let end = (v.top + r).min(v.h);
@@ -138,22 +138,6 @@ pub fn advance<S: Source + Copy>(cols: &mut [i64], source: S, v: View, r: usize,
         source.start(y + r),
         source.start(y - r - 1),
         v.w,
-    );
-}
-
-// The columns before the box's first row, of a plane at the front of lent values. They hold 0 before.
-pub fn begin(cols: &mut [i64], plane: &[i64], v: View, r: usize)
-    requires { Summable plane.now v r × (length cols.old ≡ kept) × ((k : ℕ) → get_or cols.old k (pos 0) ≡ pos 0) }
-    ensures { Columns cols.new (cells plane.now 0 v.w) v.w v.h r v.top }
-{
-    begin_of(
-        cols,
-        Values {
-            values: plane,
-            w: v.w,
-        },
-        v,
-        r,
     );
 }
 
@@ -195,45 +179,63 @@ fn across(
     }
 }
 
-// The sums over the squares about the pixels of the box's row y, of two planes at once, and the columns of both from before that row to before the next.
-// In one pass along the row the two running sums do not wait for each other.
-pub fn next(
-    a: &mut [i64],
-    b: &mut [i64],
-    plane: &[i64],
-    other: &[i64],
-    v: View,
-    r: usize,
-    y: usize,
-    one: &mut [i64],
-    two: &mut [i64],
-)
-    requires summable { Summable plane.now v r × Summable other.now v r × (y < v.tall) × (v.wide ≤ length one.old) × (v.wide ≤ length two.old) }
-    requires columns_2 { Columns a.old (cells plane.now 0 v.w) v.w v.h r (v.top + y) × Columns b.old (cells other.now 0 v.w) v.w v.h r (v.top + y) }
-    ensures columns { Columns a.new (cells plane.now 0 v.w) v.w v.h r (v.top + y + 1)
-        × Columns b.new (cells other.now 0 v.w) v.w v.h r (v.top + y + 1) }
-    ensures sums { RowSums one.new (cells plane.now 0 v.w) v.w v.h r (v.top + y) v.left v.wide
-        × RowSums two.new (cells other.now 0 v.w) v.w v.h r (v.top + y) v.left v.wide }
-{
-    advance(
-        a,
-        Values {
-            values: plane,
-            w: v.w,
-        },
-        v,
-        r,
-        v.top + y,
-    );
-    advance(
-        b,
-        Values {
-            values: other,
-            w: v.w,
-        },
-        v,
-        r,
-        v.top + y,
-    );
-    across(a, b, v.left, 2 * r + 1, v.wide, one, two);
+// ---- two planes
+
+// The sums over the squares about the pixels of a row, of two planes at once, with what they are made of: the columns of both.
+#[derive(Drop)]
+pub struct SquareSums {
+    first_columns: [i64; 1152],
+    second_columns: [i64; 1152],
+    pub first: [i64; 1024],
+    pub second: [i64; 1024],
+}
+
+impl SquareSums {
+    ghost use Rattle.sums.specs.Before.{SumsBefore, SumsAbout};
+
+    pub fn new() -> Self
+        ensures { Blank result.first_columns × Blank result.second_columns }
+    {
+        SquareSums {
+            first_columns: [0; 1152],
+            second_columns: [0; 1152],
+            first: [0; 1024],
+            second: [0; 1024],
+        }
+    }
+
+    // The columns before the box's first row, of planes at the front of lent values.
+    pub fn begin(&mut self, plane: &[i64], other: &[i64], v: View, r: usize)
+        requires { Summable plane.now v r × Summable other.now v r × Blank self.old.first_columns × Blank self.old.second_columns }
+        ensures { SumsBefore v r plane.now other.now 0 self.new }
+    {
+        let w = v.w;
+        let one = Values { values: plane, w };
+        let two = Values { values: other, w };
+        begin_of(&mut self.first_columns[..], one, v, r);
+        begin_of(&mut self.second_columns[..], two, v, r);
+    }
+
+    // The sums of the box's row y, and the columns from before that row to before the next. In one pass along the row the two running sums do not wait for each other.
+    pub fn next(&mut self, plane: &[i64], other: &[i64], v: View, r: usize, y: usize)
+        requires summable { Summable plane.now v r × Summable other.now v r × (y < v.tall) }
+        requires before { SumsBefore v r plane.now other.now y self.old }
+        ensures before { SumsBefore v r plane.now other.now (y + 1) self.new }
+        ensures about { SumsAbout v r plane.now other.now y self.new }
+    {
+        let w = v.w;
+        let one = Values { values: plane, w };
+        let two = Values { values: other, w };
+        advance(&mut self.first_columns[..], one, v, r, v.top + y);
+        advance(&mut self.second_columns[..], two, v, r, v.top + y);
+        across(
+            &self.first_columns[..],
+            &self.second_columns[..],
+            v.left,
+            2 * r + 1,
+            v.wide,
+            &mut self.first[..],
+            &mut self.second[..],
+        );
+    }
 }

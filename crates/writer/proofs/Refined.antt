@@ -19,13 +19,14 @@ use Rattle.rules.proofs.Near.{near_yes}
 use Rattle.rules.proofs.Seen.{window_some}
 use Rattle.planes.specs.declared.View.{View}
 use Rattle.planes.specs.View.{whole, rect_of, InPlane, row_start}
-use Rattle.planes.specs.Cells.{cells}
 use Rattle.planes.specs.Stage.{Lined, seen_at, box_seen}
 use Rattle.planes.proofs.Shown.{row_inside, seen_at_lem}
 use Rattle.planes.proofs.Tails.{rest, rest_cells}
 use Rattle.pixel.proofs.Sizes.{refined_le}
-use Rattle.sums.specs.Sum.{RowSums}
-use Rattle.sizes.specs.Sizes.{Sizes}
+use Rattle.sums.specs.declared.SquareSums.{SquareSums}
+use Rattle.sums.specs.Before.{SumsAbout}
+use Rattle.sizes.specs.declared.WindowSizes.{WindowSizes}
+use Rattle.sizes.specs.Before.{SizesAbout}
 use Rattle.sizes.proofs.Sized.{size_some, size_few, size_window}
 use Rattle.writer.specs.Run.{Run}
 use Rattle.writer.specs.Row.{Windows, entry_by, entry_from}
@@ -79,17 +80,8 @@ chosen false t u e = e refl
 
 -- ---- row y of the view: the sums of slopes and offsets, and the sizes, of its windows
 
-pub record RowRead (b v : View) (r y : ℕ) (mask : List ℕ) (l : List ℤ) (lines : ℕ) (one two : List ℤ) (ns inverses : List ℕ) : Type 0 where
-  pub sizes : Sizes v r (box_seen b mask) (v.top + y) ns inverses
-  pub slopes : RowSums one (cells (rest l lines) 0 v.w) v.w v.h r (v.top + y) v.left v.wide
-  pub offsets : RowSums two (cells (rest l (lines + v.w * v.h)) 0 v.w) v.w v.h r (v.top + y) v.left v.wide
-  pub one_long : v.wide ≤ length one
-  pub two_long : v.wide ≤ length two
-  pub ns_long : v.wide ≤ length ns
-  pub inverses_long : v.wide ≤ length inverses
-
-module _ (b v : View) (r y : ℕ) (mask : List ℕ) (l : List ℤ) (base : ℕ) (one two : List ℤ) (ns inverses : List ℕ) (row : RowRead b v r y mask l base one two ns inverses)
-    (F : Plane (Shown Line)) (lined : Lined l base v.w v.h (box_seen b mask) F) (p : InPlane v) (hr : r ≤ 60) (hy : y < v.tall) where
+module _ (b v : View) (r y : ℕ) (mask : List ℕ) (l : List ℤ) (base : ℕ) (sums : SquareSums) (sizes : WindowSizes)
+    (q : SumsAbout v r (rest l base) (rest l (base + v.w * v.h)) y sums) (k : SizesAbout b v r mask y sizes) (F : Plane (Shown Line)) (lined : Lined l base v.w v.h (box_seen b mask) F) (p : InPlane v) (hr : r ≤ 60) (hy : y < v.tall) where
   abbrev about : ℕ → List Line
   about i = window (whole v) r F (v.top + y) (v.left + i)
 
@@ -101,29 +93,29 @@ module _ (b v : View) (r y : ℕ) (mask : List ℕ) (l : List ℤ) (base : ℕ) 
   inside_x i h = omega (arith, p.fits.columns)
 
   -- what the lists hold of one window
-  row_read : (i : ℕ) → i < v.wide → Read (about i) (get_or ns i 0) (get_or one i (pos 0)) (get_or two i (pos 0))
+  row_read : (i : ℕ) → i < v.wide → Read (about i) (get_or sizes.ns i 0) (get_or sums.first i (pos 0)) (get_or sums.second i (pos 0))
   row_read i h = record {
-    size = row.sizes.is i h ∙ size_window v.w v.h r (box_seen b mask) F lined.seen (v.top + y) (v.left + i) inside (inside_x i h);
+    size = k.sizes.is i h ∙ size_window v.w v.h r (box_seen b mask) F lined.seen (v.top + y) (v.left + i) inside (inside_x i h);
     slopes =
-        row.slopes.is i h
+        q.first.is i h
         ∙ window_sum (whole v) r F (v.top + y) (v.left + i) inside (inside_x i h) (λ k. k.a) _
         (λ y x hy hx. rest_cells l base v.w y x ∙ lined.slopes y x hy hx);
     offsets =
-        row.offsets.is i h
+        q.second.is i h
         ∙ window_sum (whole v) r F (v.top + y) (v.left + i) inside (inside_x i h) (λ k. k.b) _
         (λ y x hy hx. rest_cells l (base + v.w * v.h) v.w y x ∙ lined.offsets y x hy hx);
   }
 
   -- what the row's function asks of all
-  pub windows : Windows v.wide one two ns inverses
+  pub windows : Windows v.wide sums.first sums.second sizes.ns sizes.inverses
   windows = record {
-    a_long = row.one_long;
-    b_long = row.two_long;
-    n_long = row.ns_long;
-    i_long = row.inverses_long;
-    some = λ i h. rw (row.sizes.is i h) (size_some v.w v.h r (box_seen b mask) (v.top + y) (v.left + i));
-    few = λ i h. rw (row.sizes.is i h) (size_few v.w v.h r (box_seen b mask) (v.top + y) (v.left + i) hr);
-    over = row.sizes.over;
+    a_long = q.first_long;
+    b_long = q.second_long;
+    n_long = k.ns_long;
+    i_long = k.inverses_long;
+    some = λ i h. rw (k.sizes.is i h) (size_some v.w v.h r (box_seen b mask) (v.top + y) (v.left + i));
+    few = λ i h. rw (k.sizes.is i h) (size_few v.w v.h r (box_seen b mask) (v.top + y) (v.left + i) hr);
+    over = k.sizes.over;
     a_le = λ i h.
         rw (row_read i h).slopes
         (omega (arith, (row_read i h).size, window_size (whole v) r F (v.top + y) (v.left + i) inside (inside_x i h) (λ k. k.a) 2560000 lined.a_le));
@@ -148,7 +140,7 @@ module _ (b v : View) (r y : ℕ) (mask : List ℕ) (l : List ℤ) (base : ℕ) 
         ∙ ap (seen_at mask) place
 
     -- one of them
-    row_entry : (from k : ℕ) → from ≡ row_start to y → k < v.wide → entry_from mask frame from one two ns (from + k) ≡ at (whole to) entries (from + k)
+    row_entry : (from k : ℕ) → from ≡ row_start to y → k < v.wide → entry_from mask frame from sums.first sums.second sizes.ns (from + k) ≡ at (whole to) entries (from + k)
     unfolding pixels
     row_entry from k e h =
         let back : from + k - from ≡ k = omega arith in
@@ -157,10 +149,10 @@ module _ (b v : View) (r y : ℕ) (mask : List ℕ) (l : List ℤ) (base : ℕ) 
         let across : v.left + (to.left + k - to.left) ≡ v.left + k = omega arith in
         let m = get_or mask (from + k) 0 in
         let g = guide (pixel_at frame (from + k)) in
-        ap (λ (j : ℕ). entry_by m (refine_of (get_or ns j 0) (get_or one j (pos 0)) (get_or two j (pos 0)) g)) back
-        ∙ chosen (eqb m 0) (refine_of (get_or ns k 0) (get_or one k (pos 0)) (get_or two k (pos 0)) g) (refine g (about k))
+        ap (λ (j : ℕ). entry_by m (refine_of (get_or sizes.ns j 0) (get_or sums.first j (pos 0)) (get_or sums.second j (pos 0)) g)) back
+        ∙ chosen (eqb m 0) (refine_of (get_or sizes.ns k 0) (get_or sums.first k (pos 0)) (get_or sums.second k (pos 0)) g) (refine g (about k))
         (λ s.
-        read_refined (about k) (get_or ns k 0) (get_or one k (pos 0)) (get_or two k (pos 0)) g (row_read k h)
+        read_refined (about k) (get_or sizes.ns k 0) (get_or sums.first k (pos 0)) (get_or sums.second k (pos 0)) g (row_read k h)
         (window_some (whole v) r F (v.top + y) (v.left + k) inside (inside_x k h) (own from k e h ∙ s)))
         ∙ ap (λ (s : Bool). cond s (refine g (about k)) 10000) (sym (own from k e h))
         ∙ ap (λ (j : ℕ). cond (F (v.top + y) (v.left + k)).seen (refine (guide (pixel_at frame j)) (about k)) 10000) (sym place)
@@ -169,10 +161,10 @@ module _ (b v : View) (r y : ℕ) (mask : List ℕ) (l : List ℤ) (base : ℕ) 
         ∙ sym (at_place (whole to) entries (to.top + y) (to.left + k) (omega arith))
         ∙ ap (at (whole to) entries) place
 
-    pub row_entries : (from : ℕ) (old new : List ℕ) → from ≡ row_start to y → Run (entry_from mask frame from one two ns) from v.wide old new
+    pub row_entries : (from : ℕ) (old new : List ℕ) → from ≡ row_start to y → Run (entry_from mask frame from sums.first sums.second sizes.ns) from v.wide old new
         → Run (at (whole to) entries) from to.wide old new
     row_entries from old new e run =
-        run_to _ _ same (run_as (entry_from mask frame from one two ns) (at (whole to) entries) from from v.wide old new (λ k h. row_entry from k e h) run)
+        run_to _ _ same (run_as (entry_from mask frame from sums.first sums.second sizes.ns) (at (whole to) entries) from from v.wide old new (λ k h. row_entry from k e h) run)
 
 -- ---- the whole map: its entries are transmissions
 

@@ -15,30 +15,28 @@ ghost use Rattle.writer.specs.Write.{Placed, entry_over, recovered_by, Entries};
 use pixel::{guide_of, pixel_at, recovered, refined, scale};
 use planes::{View, row_start, seen_or};
 use rules::Rgb;
-use sizes::resize;
-use sums::{begin, next};
+use sizes::WindowSizes;
+use sums::SquareSums;
 
-// The map entries of n pixels of the frame from position p on go to the front of the part.
+// The map entries of the frame's pixels from position p on fill the part: from the sums of slopes and of offsets over their windows, and from the windows' sizes.
 fn refine_row(
     map: &mut [u16],
     mask: &[u8],
     frame: &[u8],
     p: usize,
-    n: usize,
-    slopes: &[i64],
-    offsets: &[i64],
-    ns: &[u64],
-    inverses: &[u64],
+    sums: &SquareSums,
+    sizes: &WindowSizes,
 )
-    requires { (n ≤ length map.old) × (p + n ≤ length mask.now) × (3 * (p + n) ≤ length frame.now) × Windows n slopes.now offsets.now ns.now inverses.now }
-    ensures { Run (entry_from mask.now frame.now p slopes.now offsets.now ns.now) p n map.old map.new }
+    requires { (p + length map.old ≤ length mask.now) × (3 * (p + length map.old) ≤ length frame.now)
+        × Windows (length map.old) sums.now.first sums.now.second sizes.now.ns sizes.now.inverses }
+    ensures { Run (entry_from mask.now frame.now p sums.now.first sums.now.second sizes.now.ns) p (length map.old) map.old map.new }
 {
-    for i in 0..n {
+    for i in 0..map.len() {
         let t = refined(
-            ns[i],
-            inverses[i],
-            slopes[i],
-            offsets[i],
+            sizes.ns[i],
+            sizes.inverses[i],
+            sums.first[i],
+            sums.second[i],
             guide_of(pixel_at(frame, p + i)),
         );
         map[i] = seen_or(mask[p + i], t as u16, 10000);
@@ -62,24 +60,24 @@ fn scale_of(table: &mut [u32], t: u64) -> u32
     s
 }
 
-// The scales of n transmissions, of the entries at the part's front.
-fn scale_row(scales: &mut [u32], n: usize, map: &[u16], t0: u64, table: &mut [u32])
-    requires { (n ≤ length scales.old) × (n ≤ length map.now) × (t0 ≤ 10000) × Known table.old × ((k : ℕ) → k < n → get_or map.now k 0 ≤ 10000) }
+// The scales of the transmissions of the entries at the part's front, one for each place.
+fn scale_row(scales: &mut [u32], map: &[u16], t0: u64, table: &mut [u32])
+    requires { (length scales.old ≤ length map.now) × (t0 ≤ 10000) × Known table.old × ((k : ℕ) → k < length scales.old → get_or map.now k 0 ≤ 10000) }
     ensures known { Known table.new }
-    ensures scales { Scales (floored_at map.now t0) n scales.new }
+    ensures scales { Scales (floored_at map.now t0) (length scales.old) scales.new }
 {
-    for x in 0..n {
+    for x in 0..scales.len() {
         scales[x] = scale_of(table, (map[x] as u64).max(t0));
     }
 }
 
-// The cleared pixels of n pixels of the frame from position p on go to the front of the part.
-fn recover_row(picture: &mut [u8], frame: &[u8], p: usize, n: usize, a: Rgb, scales: &[u32])
-    requires { (3 * n ≤ length picture.old) × (3 * (p + n) ≤ length frame.now) × (n ≤ length scales.now) }
-    ensures { (T : ℕ → ℕ) → Floored T n → Scales T n scales.now
-        → Run (bytes_of (cleared_by a frame.now p T)) (3 * p) (3 * n) picture.old picture.new }
+// The pixels of the frame from position p on, each cleared by its scale, go to the front of the part.
+fn recover_row(picture: &mut [u8], frame: &[u8], p: usize, a: Rgb, scales: &[u32])
+    requires { (3 * length scales.now ≤ length picture.old) × (3 * (p + length scales.now) ≤ length frame.now) }
+    ensures { (T : ℕ → ℕ) → Floored T (length scales.now) → Scales T (length scales.now) scales.now
+        → Run (bytes_of (cleared_by a frame.now p T)) (3 * p) (3 * length scales.now) picture.old picture.new }
 {
-    for x in 0..n {
+    for x in 0..scales.len() {
         let k = scales[x];
         let i = pixel_at(frame, p + x);
         let q = 3 * x;
@@ -108,53 +106,16 @@ pub fn write_map(
         → map.new ≡ map_with (whole to) (near 0 (rect_of to)) (entry_over to v r (pixels (whole to) frame.now) F) map.old }
     ensures held { Entries to map.new }
 {
-    let mut slopes = [0i64; 1152];
-    let mut offsets = [0i64; 1152];
-    let mut one = [0i64; 1024];
-    let mut two = [0i64; 1024];
-    let mut ns = [0u64; 1024];
-    let mut over = [0u64; 1024];
-    let mut table = [0u64; 14642];
-    let mut counts = [0i64; 1152];
     let second = lines + v.w * v.h;
-    sizes::begin(&mut counts[..], mask, b, v, r);
-    begin(&mut slopes[..], &work[lines..], v, r);
-    begin(&mut offsets[..], &work[second..], v, r);
+    let mut sizes = WindowSizes::new();
+    let mut sums = SquareSums::new();
+    sizes.begin(mask, b, v, r);
+    sums.begin(&work[lines..], &work[second..], v, r);
     for y in 0..v.tall {
-        resize(
-            mask,
-            b,
-            v,
-            r,
-            y,
-            &mut counts[..],
-            &mut table[..],
-            &mut ns[..],
-            &mut over[..],
-        );
-        next(
-            &mut slopes[..],
-            &mut offsets[..],
-            &work[lines..],
-            &work[second..],
-            v,
-            r,
-            y,
-            &mut one[..],
-            &mut two[..],
-        );
+        sizes.resize(mask, b, v, r, y);
+        sums.next(&work[lines..], &work[second..], v, r, y);
         let p = row_start(to, y);
-        refine_row(
-            &mut map[p..],
-            mask,
-            frame,
-            p,
-            v.wide,
-            &one[..],
-            &two[..],
-            &ns[..],
-            &over[..],
-        );
+        refine_row(&mut map[p..p + v.wide], mask, frame, p, &sums, &sizes);
     }
 }
 
@@ -170,7 +131,8 @@ pub fn write_picture(picture: &mut [u8], map: &[u16], frame: &[u8], to: View, a:
     for y in 0..to.tall {
         let from = row_start(to, y);
         let from3 = 3 * from;
-        scale_row(&mut scales[..], to.wide, &map[from..], t0, &mut table[..]);
-        recover_row(&mut picture[from3..], frame, from, to.wide, a, &scales[..]);
+        let row = &mut scales[..to.wide];
+        scale_row(row, &map[from..], t0, &mut table[..]);
+        recover_row(&mut picture[from3..], frame, from, a, row);
     }
 }

@@ -3,4 +3,4 @@ use Rattle.filter.specs.Row.{row_line, RowLines}
 use Rattle.filter.proofs.fit_row.Given as goal
 
 abbrev pub invariant-loop-i : goal.invariant-loop-i
-invariant-loop-i l = RowLines l.initial.work l.work l.slopes l.offsets l.i (row_line l.products l.squares l.ns l.e l.mask l.at)
+invariant-loop-i l = RowLines l.initial.work l.work l.slopes l.offsets l.i (row_line l.sums.first l.sums.second l.sizes.ns l.e l.mask 0)

@@ -12,6 +12,6 @@ loop-x-preserved c =
     let less = c.loop-x-test.true in
     let room : 3 * l.x + 3 ≤ length l.picture = omega arith in
     λ T fl sc.
-    recover_more d.a c.pixel_at-i.result d.frame.now d.p d.n l.x _ _ _ T d.scales.now d.picture.now l.picture
+    recover_more d.a c.pixel_at-i.result d.frame.now d.p (length d.scales.now) l.x _ _ _ T d.scales.now d.picture.now l.picture
     c.pixel_at-i.ensures c.recovered.ensures c.recovered-in-loop-x.ensures c.recovered-in-loop-x-2.ensures fl sc less room
     (l.invariant T fl sc)

@@ -3,9 +3,10 @@ use mathlib.Core.Path.{◌≡◌, ◌∙◌}
 use Prim.Native.Nat.{ℕ, ◌-◌, ◌*◌, ◌≤◌, ◌<◌}
 use native.Mathlib.Omega.{arith}
 use lib.ListN.{length, get_or, replicate, length-replicate, get_or-replicate}
+use lib.Seq.{length-take-le}
 use Rattle.planes.specs.View.{whole, rect_of}
 use Rattle.planes.proofs.Tails.{rest, rest_at}
-use Rattle.writer.specs.Row.{Known}
+use Rattle.writer.specs.Row.{Known, floored_at}
 use Rattle.writer.proofs.Rows.{bytes_none, bytes_more, upto_bytes}
 use Rattle.writer.proofs.Recovered.{row_floored, row_bytes}
 use Rattle.writer.proofs.write_picture.Goals as goal
@@ -32,9 +33,10 @@ loop-y-preserved c =
     -- the row's entries are transmissions
     let held : (k : ℕ) → k < d.to.wide → get_or (rest d.map.now from) k 0 ≤ 10000 =
     λ k h. rw (rest_at d.map.now from k 0, row.0) (i.4.most l.y k less h) in
+    let full : length c.scale_row.new.scales ≡ d.to.wide = c.scale_row.auto.scales ∙ length-take-le d.to.wide l.scales (omega (arith, i.0.short)) in
     let run =
     row_bytes d.t0 d.map.now (whole d.to) d.a d.frame.now from d.to.wide _ c.recover_row.new.picture
-    (c.recover_row.ensures _ (row_floored d.t0 d.map.now from d.to.wide i.1 i.2 held) c.scale_row.ensures.scales) in
+    (rw full at (c.recover_row.ensures (floored_at (rest d.map.now from) d.t0) (rw full (row_floored d.t0 d.map.now from d.to.wide i.1 i.2 held)) (rw c.scale_row.auto.scales c.scale_row.ensures.scales))) in
     let long : length l.picture ≡ 3 * (d.to.w * d.to.h) = l.auto.picture ∙ c.requires.frame_len.1 in record {
       written =
           bytes_more d.to.w (rect_of d.to) (omega (arith, across, i.0.across)) across l.y _ d.picture.now l.picture c.recover_row.new.picture (3 * from) (length l.picture - 3 * from)
