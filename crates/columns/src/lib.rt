@@ -5,7 +5,7 @@ ghost use Rattle.std.specs.Prelude.{◌≡◌, ℕ, ◌+◌, ◌-◌, ◌*◌, �
 ghost use Rattle.rules.specs.Window.{Plane};
 ghost use Rattle.windows.specs.Span.{windowed};
 ghost use Rattle.windows.specs.Line.{entry, Written};
-ghost use Rattle.columns.specs.Down.{RowIs, Down, Folded, Given, Closed, Taken, Rested, down_count};
+ghost use Rattle.columns.specs.Down.{RowIs, Down, Folded, Given, Taken, Rested, down_count};
 
 use windows::last_block;
 
