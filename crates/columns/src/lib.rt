@@ -46,6 +46,7 @@ fn both(out: &mut [u16], row: &[u16], other: &[u16]) -> usize
 }
 
 // Each row up to `last` becomes the least from it to `last`. Returns the number of comparisons.
+// A row's length n stands beside the store, since the store has room for more rows.
 fn fold(store: &mut [u16], last: usize, n: usize) -> usize
     requires { last * n + n ≤ length store.old }
     ensures { (result ≡ n * last) × Folded store.old store.new n 0 last }
