@@ -92,6 +92,7 @@ fn word(low: u64, unit: u64, high: u64) -> i64
 
 // The samples of a row of pixels, from the least ratios d of their windows: from `to` on the word of each that has its guide g, and above it g times the
 // coarse value t, and from `two` on the word that has t, and above it g squared.
+// `to` and `two` are kept: `SamplesPut` speaks of the whole work area.
 fn sample_row(
     work: &mut [i64],
     to: usize,

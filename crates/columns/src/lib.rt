@@ -5,7 +5,7 @@ ghost use Rattle.std.specs.Prelude.{◌≡◌, ℕ, ◌+◌, ◌-◌, ◌*◌, �
 ghost use Rattle.rules.specs.Window.{Plane};
 ghost use Rattle.windows.specs.Span.{windowed};
 ghost use Rattle.windows.specs.Line.{entry, Written};
-ghost use Rattle.columns.specs.Down.{RowIs, Down, Folded, Given, Closed, Taken, Rested, down_count};
+ghost use Rattle.columns.specs.Down.{RowIs, Down, Folded, Given, Taken, Rested, down_count};
 
 use windows::last_block;
 
@@ -46,6 +46,7 @@ fn both(out: &mut [u16], row: &[u16], other: &[u16]) -> usize
 }
 
 // Each row up to `last` becomes the least from it to `last`. Returns the number of comparisons.
+// A row's length n stands beside the store, since the store has room for more rows.
 fn fold(store: &mut [u16], last: usize, n: usize) -> usize
     requires { last * n + n ≤ length store.old }
     ensures { (result ≡ n * last) × Folded store.old store.new n 0 last }

@@ -98,6 +98,7 @@ fn level_row(levels: &mut [u16], mask: &[u8], d: &[u16])
 }
 
 // A row's levels d go to the work area, from `to` on.
+// `to` is kept: `RowPut` speaks of the whole work area.
 fn store_row(work: &mut [i64], to: usize, d: &[u16])
     requires { to + length d.now ≤ length work.old }
     ensures { RowPut work.old work.new to (λ x. get_or d.now x 0) (length d.now) }
@@ -108,7 +109,8 @@ fn store_row(work: &mut [i64], to: usize, d: &[u16])
 }
 
 // A row's levels d, of the positions from `first` on, are counted. Each level has four lanes, and neighbours are counted in different ones, so that
-// equal neighbours do not wait for each other.
+// equal neighbours do not wait for each other. Not inlined, since among a row's other loops its bound finds no register (measured: 7 % of the call).
+#[inline(never)]
 fn tally_row(d: &[u16], first: usize, apart: &mut [u32])
     requires { (first + length d.now ≤ 262144) × ((x : ℕ) → x < length d.now → get_or d.now x 0 ≤ 256) × (length apart.old ≡ 1028) × Below first apart.old }
     ensures { (D : ℕ → ℕ) → Starts (hits (lane D) first) 1028 apart.old → ((x : ℕ) → x < length d.now → get_or d.now x 0 ≡ D (first + x))
