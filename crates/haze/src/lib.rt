@@ -97,7 +97,8 @@ pub fn band(z: Size, map: &[u16], from: usize, to: usize) -> Band
     }
 }
 
-// Budget: how many comparisons the dark channel takes for a frame of this size at radius s; 0 for a size or radius that is refused.
+// Budget: how many comparisons the dark channel takes for a frame of this size at radius s; 0 for a size or radius that is refused, and no None: C has this
+// number, and the call cannot fail.
 pub fn comparisons(z: Size, s: usize) -> u64
     ensures { Budgets z s result }
 {

@@ -98,7 +98,7 @@ fn level_row(levels: &mut [u16], mask: &[u8], d: &[u16])
 }
 
 // A row's levels d go to the work area, from `to` on.
-// `to` is kept: `RowPut` speaks of the whole work area.
+// `to` is kept: `RowPut` speaks of the whole work area. A level widens as it goes, so no copy of a slice serves.
 fn store_row(work: &mut [i64], to: usize, d: &[u16])
     requires { to + length d.now ≤ length work.old }
     ensures { RowPut work.old work.new to (λ x. get_or d.now x 0) (length d.now) }

@@ -1,7 +1,7 @@
 // One pixel's arithmetic, as document 01 has it. The one division that every pixel has is that of its slope. What else is divided by is the same
 // for many pixels (a light, the size of a window, a transmission): one division makes its scale, and each quotient is then a product. The library's
-// other divisions: a share of the pixels once a call (`light`), two of doubles (`bands`), halves in a search (`depth`), tenths of a number that is
-// written (`fields`).
+// other divisions: a share of the pixels once a call (`light`), two of doubles (`bands`), the blocks of a line and a row's place in its block (`windows`,
+// `columns`, `budget`), tenths of a number that is written (`fields`).
 #![tactic(auto)]
 
 ghost use Rattle.std.specs.Prelude.{◌≡◌, true, false, cond, ℕ, ◌+◌, ◌-◌, ◌*◌, ◌/◌, ◌^◌, ◌≤◌, ◌<◌, min, max, length, pos, negsuc, nat_abs, ◌+ℤ◌, ◌-ℤ◌, ◌*ℤ◌};

@@ -37,7 +37,7 @@ fn run(out: &mut impl Write, input: &[u8]) -> io::Result<()> {
     Ok(())
 }
 
-// No more of the input is read than 262,144 bytes. A crate for these lines and those of runtexts would be no shorter.
+// No more of the input is read than 262,144 bytes. A crate for these lines and those of runcalls and runtexts would be no shorter.
 fn main(rt: HostRuntime) -> io::Result<()> {
     let mut input = Vec::new(rt.alloc());
     rt.reader().take(262144).read_to_end(&mut input)?;

@@ -23,7 +23,7 @@ fn run(out: &mut impl Write, input: &[u8]) -> io::Result<()> {
     Ok(())
 }
 
-// No more of the input is read than 524,288 bytes. A crate for these lines and those of runsettings would be no shorter.
+// No more of the input is read than 524,288 bytes. A crate for these lines and those of runcalls and runsettings would be no shorter.
 fn main(rt: HostRuntime) -> io::Result<()> {
     let mut input = Vec::new(rt.alloc());
     rt.reader().take(524288).read_to_end(&mut input)?;

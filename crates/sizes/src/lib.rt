@@ -80,7 +80,8 @@ fn size_of(n: i64) -> u64
     n.max(1) as u64
 }
 
-// The sizes of n windows of d columns: of each the sum of the d columns after its place, which is from x on.
+// The sizes of n windows of d columns: of each the sum of the d columns after its place, which is from x on. The running sum is that of `sums`' own loop,
+// which runs two at once and keeps them: one loop for both would have to run a second sum here.
 fn size_row(cols: &[i64], x: usize, d: usize, n: usize, ns: &mut [u64])
     requires spannable { Spannable cols.now × (d ≤ 121) × (x + n + d ≤ kept) × (n ≤ length ns.old) }
     requires by_index { (i : ℕ) → i < n → Count (span_at cols.now x d i) }
@@ -101,7 +102,7 @@ fn inverse_of(table: &mut [u64], n: usize) -> u64
     ensures over { Over 1 n parts result }
 {
     let known = table[n];
-    // 0 stands for a reciprocal that is not known: an Option of each would double the table.
+    // 0 stands for a reciprocal that is not known: an Option of a u64 is twice as long.
     if known != 0 {
         return known;
     }

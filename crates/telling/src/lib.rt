@@ -32,7 +32,7 @@ pub fn say_entries<T: Copy, F: Fn(T) -> u64>(
     write!(out, " {digest}")
 }
 
-// The number of an entry of the work area: it tells apart 0, the four numbers that the area is filled with, and any other.
+// The number of an entry of the work area, as it goes into the digest: it tells apart 0, the four numbers that the area is filled with, and any other.
 pub fn kind(entry: i64) -> u64 {
     match entry {
         0 => 0,
@@ -78,7 +78,7 @@ pub fn say_finding(out: &mut impl Write, finding: Result<Finding, Refusal>) -> i
     }
 }
 
-// A double by its bits; 0 stands for what is no number.
+// A double by its bits; 0 stands for what is no number, whose bits differ from one processor to another.
 fn bits(x: f64) -> u64 {
     if x.is_nan() { 0 } else { x.to_bits() }
 }

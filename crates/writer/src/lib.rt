@@ -44,7 +44,7 @@ fn refine_row(
 }
 
 // The scale of a transmission, from the table, where 0 says that it is not known yet.
-// No scale is 0, and an Option for each entry would double the table that every call sets up.
+// No scale is 0, and an Option of a u32 is twice as long: every call sets the table up.
 fn scale_of(table: &mut [u32], t: u64) -> u32
     requires { Known table.old × (t ≤ 10000) }
     ensures known { Known table.new }
