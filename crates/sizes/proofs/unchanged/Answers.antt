@@ -11,7 +11,7 @@ pub returns-then-y-r : goal.returns-then-y-r
 returns-then-y-r c t =
     let a = c.args in
     let above : a.r < a.y = elim c.if-r-y.branch [ then-r-y w ↦ w.if-r-y.true | else-r-y w ↦ ltb-true _ _ (sym w.value-is ∙ c.if-y-r.true) ] in
-    let below : a.y + a.r < a.v.h = elim c.if-r-y.branch [ then-r-y w ↦ ltb-true _ _ (sym w.value-is ∙ c.if-y-r.true) | else-r-y w ↦ absurd (omega (arith, above)) ] in
+    let below : a.y + a.r < a.v.h = elim c.if-r-y.branch [ then-r-y w ↦ omega (arith, ltb-true _ _ (sym w.value-is ∙ c.if-y-r.true)) | else-r-y w ↦ absurd (omega (arith, above)) ] in
     record {
       above = above;
       below = below;
