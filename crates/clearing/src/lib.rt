@@ -18,7 +18,7 @@ ghost use Rattle.clearing.specs.Call.{Loan, Inside, Nested, shape_of, in_view, v
 
 use coarse::prepare;
 use filter::fit;
-use planes::{View, wipe};
+use planes::{View, copy, wipe};
 use rules::{Rect, Rgb, Settings, Size};
 use writer::{write_map, write_picture};
 
@@ -80,7 +80,7 @@ fn paste(frame: &mut [u8], z: Size, c: Rect, new: &[u8])
     for j in 0..c.h {
         let to = 3 * ((c.y + j) * z.w + c.x);
         let from = 3 * (j * c.w);
-        frame[to..to + n].copy_from_slice(&new[from..from + n]);
+        copy(&mut frame[to..to + n], &new[from..from + n]);
     }
 }
 

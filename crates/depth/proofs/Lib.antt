@@ -6,5 +6,6 @@ pub mod Written
 pub mod Exactly
 pub mod Accepted
 pub mod Unique
+pub mod Says
 pub mod Calls
 pub mod Cases

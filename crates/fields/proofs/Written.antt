@@ -1,14 +1,13 @@
 -- Laws of writing: one piece after another, one byte more of a word, the digits of a number. Assumes nothing.
 use mathlib.Core.Path.{◌≡◌, refl, sym, ap, ap₂, ◌∙◌}
-use mathlib.Core.List.{List, [], ◌∷◌, ◌++◌, append-nil, append_assoc}
-use Prim.Native.Nat.{ℕ, zero, suc, ◌+◌, ◌-◌, ◌/◌, ◌%◌, ◌^◌, ◌≤◌, ◌<◌}
+use mathlib.Core.List.{List, [], ◌∷◌, ◌++◌, append-nil}
+use Prim.Native.Nat.{ℕ, zero, suc, ◌+◌, ◌/◌, ◌%◌, ◌^◌, ◌≤◌, ◌<◌}
 use native.Mathlib.Nat.{add-zero, pow-succ'}
 use native.Mathlib.Decide.{dec_lt}
 use native.Mathlib.Omega.{arith}
 use lib.ListN.{length, get_or, set, take, drop, length-append, drop_of_length-le}
 use lib.Seq.{sets, length-sets, sets-eq, take_at, length-take-le}
 use borrow.Author.Tests.{lt-ltb, le-ltb}
-use borrow.Rule.Slice.PartMut.{put_mid, post_of, Post-is}
 use Rattle.fields.specs.Decimal.{decimal_in, decimal}
 use Rattle.fields.specs.Written.{Wrote, columns}
 use Rattle.fields.proofs.Steps.{step}
@@ -38,20 +37,16 @@ take_sets vs l i h =
 pub one : (b : ℕ) (l : List ℕ) (i : ℕ) → i < length l → Wrote (b ∷ []) l i (set l i b) (i + 1)
 one b l i h = record { ends = refl; within = omega arith; is = refl }
 
--- ---- a word, written over a part
+-- ---- a word, byte by byte
 
-pub written_over : (word out part : List ℕ) (at : ℕ) → at + length word ≤ length out → part ≡ word
-    → Wrote word out at (put_mid at (at + length word - at) out part) (at + length word)
-written_over word out part at h e =
-    record {
-      ends = refl;
-      within = h;
-      is =
-          ap (λ (l : List ℕ). take at out ++ (l ++ post_of at (at + length word - at) out)) e
-          ∙ ap (λ (l : List ℕ). take at out ++ (word ++ l)) (Post-is at (at + length word) out (omega arith))
-          ∙ sym (append_assoc (take at out) word (drop (at + length word) out))
-          ∙ sym (sets-eq word out at h);
-    }
+module _ (word out : List ℕ) (at i : ℕ) where
+  pub word_more : i < length word → sets out (at + i) (drop i word) ≡ sets (set out (at + i) (get_or word i 0)) (at + (i + 1)) (drop (i + 1) word)
+  word_more h =
+      let e : suc (at + i) ≡ at + (i + 1) = omega arith in
+      ap (sets out (at + i)) (step word i 0 h) ∙ ap (λ (k : ℕ). sets (set out (at + i) (get_or word i 0)) k (drop (i + 1) word)) e
+
+  pub word_done : length word ≤ i → sets out (at + i) (drop i word) ≡ out
+  word_done h = ap (sets out (at + i)) (drop_of_length-le word h)
 
 -- ---- numbers, each after a tab
 

@@ -152,15 +152,16 @@ pub fn put_number(out: &mut [u8], at: usize, n: u64) -> usize
     last + 1
 }
 
-// Writes the bytes of a word from at on, and answers where they end.
-#[tactic(auto, using(crate::proofs::Written::written_over))]
+// Writes the bytes of a word from at on, and answers where they end. By a loop, and not by `copy_from_slice`, for which an archive for C would need the C library's
+// memmove.
 pub fn put_word(out: &mut [u8], at: usize, word: &[u8]) -> usize
     requires { at + length word.now ≤ length out.old }
     ensures { Wrote word.now out.old at out.new result }
 {
-    let end = at + word.len();
-    out[at..end].copy_from_slice(word);
-    end
+    for i in 0..word.len() {
+        out[at + i] = word[i];
+    }
+    at + word.len()
 }
 
 // Writes a tab and a number.

@@ -19,7 +19,7 @@ use Rattle.rules.specs.Count.{clear_comparisons, replace_comparisons}
 use Rattle.rules.specs.Answers.{said, left}
 use Rattle.rules.specs.Promise.{band_said, wiped, finding, no_light, no_clear, no_replace, after_clear, after_replace, Lent, Lights, Clears, Replaces, Hazes, Bands, Budgets}
 use Rattle.boundary.specs.Handed.{figure_after}
-use Rattle.boundary.proofs.Most.{light_most, clear_most, replace_most, haze_most, band_most}
+use Rattle.rules.proofs.Most.{light_most, clear_most, replace_most, haze_most, band_most}
 use Rattle.boundary.proofs.Told.{answered_returns, valued_returns, figured_returns, both_return}
 use Rattle.haze_c.specs.Calls.{light_places, frame_places, LightReturns, ClearReturns, ReplaceReturns, AddReturns, BandReturns}
 

@@ -13,16 +13,12 @@ use Rattle.pnm.specs.Header.{header_of, head_said}
 use Rattle.ppm.specs.Promise.{size, pixels, refuse_size, refuse_read, Sizes, Reads, Writes}
 use Rattle.ppm.proofs.Exactly.{size_most, read_most, write_most}
 use Rattle.ppm.proofs.Reading.{opened}
-use Rattle.boundary.proofs.Most.{first_most}
+use Rattle.depth.proofs.Says.{depths_most}
 use Rattle.boundary.proofs.Told.{answered_returns, valued_returns, both_return}
 use Rattle.haze_files_c.specs.Depths.{DepthsReturns}
 use Rattle.haze_files_c.specs.Netpbm.{SizeReturns, read_places, ReadReturns, WriteReturns, Heading, heading, HeaderReturns}
 
 -- ---- an answer with no value
-
-depths_most : (z : Size) (entries : List ℕ) (out : ℕ) → refuse_depths z entries out ≤ 15
-unfolding refuse_depths
-depths_most z entries out = first_most (tests_depths z entries out) refl
 
 pub depths_returns :
     {z z' : Size} {entries out out' : List ℕ} {r : Result (Unit {0}) Refusal} {n : ℕ}

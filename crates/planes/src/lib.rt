@@ -1,4 +1,4 @@
-// A box in a plane, and the wiping of the lent work area. What stands in the area between the passes is said in `specs/Stage`.
+// A box in a plane, the wiping of the lent work area, and a row copied. What stands in the area between the passes is said in `specs/Stage`.
 #![tactic(auto)]
 
 ghost use Rattle.std.specs.Prelude.{◌≡◌, cond, not, eqb, ◌+◌, ◌*◌, ◌≤◌, ◌<◌, ◌++◌, length, drop, replicate, pos};
@@ -28,6 +28,16 @@ pub fn seen_or<T: Copy>(m: u8, told: T, hidden: T) -> T
     ensures { result ≡ cond (not (eqb m 0)) told hidden }
 {
     if m == 0 { hidden } else { told }
+}
+
+// Each entry becomes that of the other slice. By a loop, and not by `copy_from_slice`, for which an archive for C would need the C library's memmove.
+pub fn copy<T: Copy>(out: &mut [T], from: &[T])
+    requires { length out.old ≡ length from.now }
+    ensures after { out.new ≡ from.now }
+{
+    for i in 0..from.len() {
+        out[i] = from[i];
+    }
 }
 
 // The first n entries become 0, the rest is as it was.

@@ -50,6 +50,10 @@ numbered_number refusal.Bytes = refl
 numbered_number refusal.Unseen = refl
 numbered_number refusal.Name = refl
 
+-- so two refusals with one number are one
+pub number_one : (e f : Refusal) → number e ≡ number f → e ≡ f
+number_one e f h = sym (numbered_number e) ∙ ap numbered h ∙ numbered_number f
+
 -- and each number from 1 to 15 is that of the refusal that has it
 pub number_numbered : (n : ℕ) → n ≤ 14 → number (numbered (suc n)) ≡ suc n
 number_numbered zero h = refl

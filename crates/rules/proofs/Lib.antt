@@ -26,6 +26,8 @@ pub mod Good
 pub mod Exactly
 pub mod Lowest
 pub mod Answers
+pub mod Most
+pub mod Says
 pub mod Budget
 pub mod Wipe
 pub mod Unique

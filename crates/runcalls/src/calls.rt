@@ -5,7 +5,9 @@ use crate::line::{front, part};
 use rules::{Rect, Rgb, Settings, Size};
 use std::io;
 use std::io::Write;
-use telling::{kind, say_answer, say_band, say_budget, say_count, say_entries, say_finding};
+use telling::{
+    say_answer, say_band, say_budget, say_bytes, say_count, say_entries, say_finding, say_kinds,
+};
 
 // ---- what the numbers of a line say: functions, since a From for a type of `rules` can stand in `rules` alone
 
@@ -114,12 +116,12 @@ fn say_lent(out: &mut impl Write, lent: Lent<'_>) -> io::Result<()> {
         picture,
         work,
     } = lent;
-    say_entries(out, mask, u64::from)?;
-    say_entries(out, frame, u64::from)?;
-    say_entries(out, new, u64::from)?;
-    say_entries(out, map, u64::from)?;
-    say_entries(out, picture, u64::from)?;
-    say_entries(out, work, kind)
+    say_bytes(out, mask)?;
+    say_bytes(out, frame)?;
+    say_bytes(out, new)?;
+    say_entries(out, map)?;
+    say_bytes(out, picture)?;
+    say_kinds(out, work)
 }
 
 // The call, and what the lent parts hold after it.

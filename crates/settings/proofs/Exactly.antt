@@ -16,7 +16,7 @@ use Rattle.settings.specs.declared.Source.TheVariants.{Field, House}
 use Rattle.rules.specs.declared.Refusal.{Refusal}
 use Rattle.rules.specs.declared.Refusal.TheVariants.{Layout, Name}
 use Rattle.settings.specs.Texts.{word, good, had, first_with, value_in}
-use Rattle.settings.specs.Promise.{over, source_of, tests_setting, bytes_of, refusal_of, Setting}
+use Rattle.settings.specs.Promise.{over, source_of, tests_setting, bytes_of, why_said, refusal_of, Setting, Refuses}
 use Rattle.settings.proofs.Found.{value_some}
 
 -- ---- the numbers
@@ -78,11 +78,11 @@ answered field house name (Ok (Field k)) (of_field g e) = full (value_in field k
 answered field house name (Ok (House k)) (of_house g n e) = full (value_in house k) (value_some house name g k e)
 answered field house name (Err e) refused = record { empty = λ l. refl; refused = λ l. number_positive e }
 
--- from the promises of the two calls: r is what `setting` returns, n what `setting_refusal` says
-pub empty_exactly : (field house : Bor (List ℕ)) (name : List ℕ) (r : Bor (List ℕ)) (n : ℕ)
-    → Setting field house name r → n ≡ refusal_of field.now house.now name → EmptyExactly r.now n
+-- from the promises of the two calls: r is what `setting` returns, w what `setting_refusal` returns
+pub empty_exactly : (field house : Bor (List ℕ)) (name : List ℕ) (r : Bor (List ℕ)) (w : Option Refusal)
+    → Setting field house name r → Refuses field.now house.now name w → EmptyExactly r.now (why_said w)
 unfolding refusal_of
-empty_exactly field house name r n p q =
+empty_exactly field house name r w p q =
     let s = source_of field.now house.now name in
     let e = answered field.now house.now name s (came field.now house.now name) in
     record {

@@ -57,6 +57,10 @@ why_said (Some e) = number e
 unfoldable pub refusal_of : List ℕ → List ℕ → List ℕ → ℕ
 refusal_of field house name = said (source_of field house name)
 
+-- w is what `setting_refusal` returns
+abbrev pub Refuses : List ℕ → List ℕ → List ℕ → Option Refusal → Type 0
+Refuses field house name w = why_said w ≡ refusal_of field house name
+
 -- r is the part that `setting` returns
 pub record Setting (field house : Bor (List ℕ)) (name : List ℕ) (r : Bor (List ℕ)) : Type 0 where
   pub bytes : r.now ≡ bytes_of field.now house.now (source_of field.now house.now name)

@@ -4,7 +4,7 @@
 ghost use Rattle.std.specs.Prelude.{◌≡◌, length};
 ghost use Rattle.fields.specs.Fields.{split};
 ghost use Rattle.settings.specs.Texts.{word, kept, good, first_with};
-ghost use Rattle.settings.specs.Promise.{source_of, why_said, refusal_of, ValueOf, Setting};
+ghost use Rattle.settings.specs.Promise.{source_of, ValueOf, Setting, Refuses};
 
 use fields::Class;
 use rules::Refusal;
@@ -139,8 +139,9 @@ pub fn setting<'a>(field: &'a [u8], house: &'a [u8], name: &[u8]) -> &'a [u8]
 }
 
 // Why such a call is refused, if it is.
+#[tactic(auto, using(crate::proofs::Answers::why_is))]
 pub fn setting_refusal(field: &[u8], house: &[u8], name: &[u8]) -> Option<Refusal>
-    ensures { why_said result ≡ refusal_of field.now house.now name.now }
+    ensures { Refuses field.now house.now name.now result }
 {
     choose(field, house, name).err()
 }

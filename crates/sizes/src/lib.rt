@@ -3,7 +3,7 @@
 // which only a hidden pixel can have, counts as one of size 1: its sums are 0, and nothing is divided by 0.
 #![tactic(auto)]
 
-ghost use Rattle.std.specs.Prelude.{◌≡◌, true, ℕ, ◌+◌, ◌-◌, ◌≤◌, ◌<◌, max, length, get_or, pos, nat_abs};
+ghost use Rattle.std.specs.Prelude.{◌≡◌, true, ℕ, ◌+◌, ◌-◌, ◌≤◌, ◌<◌, max, length, replicate, get_or, pos, nat_abs};
 ghost use Rattle.planes.specs.View.{InPlane, Framed, row_start};
 ghost use Rattle.planes.specs.Stage.{box_seen};
 ghost use Rattle.sums.specs.Sum.{kept, Columns, Blank, Spannable};
@@ -33,9 +33,9 @@ fn alike(mask: &[u8], at: usize, other: usize, n: usize) -> bool
 
 // The box b of a mask, as a plane of ones, for pixels that are seen, and zeros.
 #[derive(Clone, Copy)]
-struct Seen<'a> {
-    mask: &'a [u8],
-    b: View,
+pub struct Seen<'a> {
+    pub mask: &'a [u8],
+    pub b: View,
 }
 
 impl<'a> Source for Seen<'a> {
@@ -137,7 +137,9 @@ impl WindowSizes {
     ghost use Rattle.sizes.specs.Before.{SizesBefore, SizesAbout};
 
     pub fn new() -> Self
-        ensures { Blank result.columns }
+        ensures blank { Blank result.columns }
+        ensures table { result.table ≡ replicate 14642 0 }
+        ensures rows { (result.ns ≡ replicate 1024 0) × (result.inverses ≡ replicate 1024 0) }
     {
         WindowSizes {
             columns: [0; 1152],
@@ -150,7 +152,9 @@ impl WindowSizes {
     // The columns before the view's first row.
     pub fn begin(&mut self, mask: &[u8], b: View, v: View, r: usize)
         requires { InPlane v × Framed b v mask.now × (r ≤ 60) × Blank self.old.columns }
-        ensures { SizesBefore b v r mask.now 0 self.new }
+        ensures before { SizesBefore b v r mask.now 0 self.new }
+        ensures table { self.new.table ≡ self.old.table }
+        ensures rows { (self.new.ns ≡ self.old.ns) × (self.new.inverses ≡ self.old.inverses) }
     {
         begin_of(&mut self.columns[..], Seen { mask, b }, v, r);
     }

@@ -1,7 +1,7 @@
 // Sums over squares that slide: the sums of the squares' rows, column by column, kept from one row of the box to the next, and along the row of them.
 #![tactic(auto)]
 
-ghost use Rattle.std.specs.Prelude.{◌≡◌, List, ℕ, ◌+◌, ◌*◌, ◌≤◌, ◌<◌, length, get_or, ℤ, pos};
+ghost use Rattle.std.specs.Prelude.{◌≡◌, List, ℕ, ◌+◌, ◌*◌, ◌≤◌, ◌<◌, length, replicate, get_or, ℤ, pos};
 ghost use Rattle.rules.specs.Window.{Plane};
 ghost use Rattle.planes.specs.Cells.{cells};
 ghost use Rattle.sums.specs.Sum.{Summable, Readable, Blank, Columns, RowSums, kept, entry, range_sum, RowIn, Rewritten, entered, left, slid, Spannable, Spans, cells_row};
@@ -41,9 +41,9 @@ pub trait Source {
 
 // A plane at the front of lent values.
 #[derive(Clone, Copy)]
-struct Values<'a> {
-    values: &'a [i64],
-    w: usize,
+pub struct Values<'a> {
+    pub values: &'a [i64],
+    pub w: usize,
 }
 
 impl<'a> Source for Values<'a> {
@@ -194,7 +194,8 @@ impl SquareSums {
     ghost use Rattle.sums.specs.Before.{SumsBefore, SumsAbout};
 
     pub fn new() -> Self
-        ensures { Blank result.first_columns × Blank result.second_columns }
+        ensures blank { Blank result.first_columns × Blank result.second_columns }
+        ensures rows { (result.first ≡ replicate 1024 (pos 0)) × (result.second ≡ replicate 1024 (pos 0)) }
     {
         SquareSums {
             first_columns: [0; 1152],
@@ -207,7 +208,8 @@ impl SquareSums {
     // The columns before the box's first row, of planes at the front of lent values.
     pub fn begin(&mut self, plane: &[i64], other: &[i64], v: View, r: usize)
         requires { Summable plane.now v r × Summable other.now v r × Blank self.old.first_columns × Blank self.old.second_columns }
-        ensures { SumsBefore v r plane.now other.now 0 self.new }
+        ensures before { SumsBefore v r plane.now other.now 0 self.new }
+        ensures rows { (self.new.first ≡ self.old.first) × (self.new.second ≡ self.old.second) }
     {
         let w = v.w;
         let one = Values { values: plane, w };

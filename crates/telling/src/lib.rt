@@ -13,7 +13,7 @@ fn with_number(h: u64, number: u64) -> u64 {
 }
 
 // How many entries there are, the entries themselves where they are few, and a digest of all of them in order. An entry counts as the number of it.
-pub fn say_entries<T: Copy, F: Fn(T) -> u64>(
+fn say_all<T: Copy, F: Fn(T) -> u64>(
     out: &mut impl Write,
     entries: &[T],
     number_of: F,
@@ -33,7 +33,7 @@ pub fn say_entries<T: Copy, F: Fn(T) -> u64>(
 }
 
 // The number of an entry of the work area, as it goes into the digest: it tells apart 0, the four numbers that the area is filled with, and any other.
-pub fn kind(entry: i64) -> u64 {
+fn kind(entry: i64) -> u64 {
     match entry {
         0 => 0,
         i64::MIN => 1,
@@ -42,6 +42,19 @@ pub fn kind(entry: i64) -> u64 {
         1 => 4,
         _ => 5,
     }
+}
+
+pub fn say_bytes(out: &mut impl Write, bytes: &[u8]) -> io::Result<()> {
+    say_all(out, bytes, u64::from)
+}
+
+pub fn say_entries(out: &mut impl Write, entries: &[u16]) -> io::Result<()> {
+    say_all(out, entries, u64::from)
+}
+
+// What the work area holds: the kind of each entry.
+pub fn say_kinds(out: &mut impl Write, work: &[i64]) -> io::Result<()> {
+    say_all(out, work, kind)
 }
 
 // ---- what a call answered

@@ -47,8 +47,8 @@ turn t =
 pub loop-j-init : goal.loop-j-init
 loop-j-init c = bytes_none c.args.z.w c.args.c _ _
 
-pub slice_bounds-copy_from_slice-end : goal.slice_bounds-copy_from_slice-end
-slice_bounds-copy_from_slice-end c = omega (arith, turn (goal.at.slice_bounds-copy_from_slice-end c).In-loop-j)
+pub slice_bounds-copy-end : goal.slice_bounds-copy-end
+slice_bounds-copy-end c = omega (arith, turn (goal.at.slice_bounds-copy-end c).In-loop-j)
 
 pub loop-j-preserved : goal.loop-j-preserved
 loop-j-preserved c =
@@ -62,9 +62,9 @@ loop-j-preserved c =
     let n = 3 * d.c.w in
     let part = take (to + n - to) (drop to l.frame) in
     let long : length part ≡ n = length-take-le (to + n - to) (drop to l.frame) (simp length-drop (omega (arith, r))) ∙ (let e : to + n - to ≡ n = omega arith in e) in
-    let run : Run (λ i. get_or d.new.now i 0) from n part c.copy_from_slice.new.self =
-    rw c.copy_from_slice.ensures.after (run_copied d.new.now part from n _ (omega arith) long r.3) in
-    bytes_more d.z.w d.c (wide t) r.1 j _ d.frame.now l.frame c.copy_from_slice.new.self to (to + n - to) l.invariant refl
+    let run : Run (λ i. get_or d.new.now i 0) from n part c.copy.new.out =
+    rw c.copy.ensures.after (run_copied d.new.now part from n _ (omega arith) long r.3) in
+    bytes_more d.z.w d.c (wide t) r.1 j _ d.frame.now l.frame c.copy.new.out to (to + n - to) l.invariant refl
     (run_as (λ i. get_or d.new.now i 0) _ from to n _ _ (λ i h. placed_at (described d.z) d.c d.new.now j i r.1 h) run)
     (omega (arith, r)) (omega (arith, r))
 

@@ -10,10 +10,10 @@ pub begin-requires-2 : goal.begin-requires-2
 begin-requires-2 c =
     let p = c.requires.in_plane in
     let s = c.requires.sampling.0.sampled in
-    (first_summable c.args.v c.args.r p.0 p.2 s, second_summable c.args.v c.args.r p.0 p.2 s, c.new-sums.ensures.0, c.new-sums.ensures.1)
+    (first_summable c.args.v c.args.r p.0 p.2 s, second_summable c.args.v c.args.r p.0 p.2 s, c.new-sums.ensures.blank.0, c.new-sums.ensures.blank.1)
 
 pub loop-y-init : goal.loop-y-init
-loop-y-init c = going_start c.begin-2.ensures c.begin.ensures
+loop-y-init c = going_start c.begin-2.ensures.before c.begin.ensures.before
 
 -- the samples stand as they did at the start
 sampled : (t : In-loop-y) → Sampled t.loop-y.work t.args.v.w t.args.v.h (box_seen t.args.b t.args.mask.now) t.requires.sampling.0.S

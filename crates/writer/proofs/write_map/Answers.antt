@@ -33,12 +33,12 @@ offsets_given s =
 pub begin-requires-2 : goal.begin-requires-2
 begin-requires-2 c =
     let s = (goal.at.begin-requires-2 c).Start in
-    (slopes_given s, offsets_given s, c.new-sums.ensures.0, c.new-sums.ensures.1)
+    (slopes_given s, offsets_given s, c.new-sums.ensures.blank.0, c.new-sums.ensures.blank.1)
 
 pub loop-y-init : goal.loop-y-init
 loop-y-init c =
     let d = c.args in
-    record { written = λ F lined. entries_none d.to.w (rect_of d.to) _ _; sums = c.begin-2.ensures; sizes = c.begin.ensures }
+    record { written = λ F lined. entries_none d.to.w (rect_of d.to) _ _; sums = c.begin-2.ensures.before; sizes = c.begin.ensures.before }
 
 pub next-requires-clause-summable : goal.next-requires-clause-summable
 next-requires-clause-summable c =

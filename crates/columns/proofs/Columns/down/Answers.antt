@@ -7,10 +7,10 @@ use Rattle.columns.proofs.Steps.{take_count, rest_count}
 use Rattle.columns.proofs.Columns.down.Goals as goal
 
 pub returns-then-v-self-clause-count : goal.returns-then-v-self-clause-count
-returns-then-v-self-clause-count c = take_count _ _ _ _ _ _ _ _ _ c.args.self.now.s _ c.if-v-self.true c.take.ensures.taken
+returns-then-v-self-clause-count g c = take_count _ _ _ _ _ _ _ _ _ c.args.self.now.s _ c.if-v-self.true c.take.ensures.taken
 
 pub returns-clause-count : goal.returns-clause-count
-returns-clause-count c =
+returns-clause-count g c =
     let a = c.args in
     let l = a.self.now in
     let wide : length a.out.now ≡ length a.row.now = c.requires.n_in_bounds.2 in

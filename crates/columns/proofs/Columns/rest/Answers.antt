@@ -11,38 +11,39 @@ use Rattle.windows.proofs.Cuts.{ne_lt, start_le, lt_start}
 use Rattle.columns.proofs.Stores.{row_apart}
 use Rattle.columns.proofs.Steps.{rest_two}
 use Rattle.columns.proofs.Columns.rest.Goals as goal
+use Rattle.columns.proofs.Columns.rest.Given.{Over}
 use Rattle.columns.proofs.Columns.rest.Goals.{Else-c-a, After-last_block-c}
 
 -- where the last block starts
-last : (c : After-last_block-c) → c.last_block-c.result ≡ start (2 * c.args.self.now.s + 1) (c.args.self.now.h - 1)
-last c = rw c.block-k.ensures at c.last_block-c.ensures
+last : (g : Over) (c : After-last_block-c g) → c.last_block-c.result ≡ start (2 * c.args.self.now.s + 1) (c.args.self.now.h - 1)
+last g c = rw c.block-k.ensures at c.last_block-c.ensures
 
-later : (c : Else-c-a) → c.args.a < c.last_block-c.result
-later c = ne_lt _ _ c.if-c-a.false (λ e. c.if-a-c.false (sym e))
+later : (g : Over) (c : Else-c-a g) → c.args.a < c.last_block-c.result
+later g c = ne_lt _ _ c.if-c-a.false (λ e. c.if-a-c.false (sym e))
 
 pub overflow_sub-at-2 : goal.overflow_sub-at-2
-overflow_sub-at-2 c =
+overflow_sub-at-2 g c =
     let l = c.args.self.now in
-    omega (arith, last (goal.at.overflow_sub-at-2 c).After-last_block-c, start_le (2 * l.s + 1) (omega arith) (l.h - 1))
+    omega (arith, last g (goal.at.overflow_sub-at-2 g c).After-last_block-c, start_le (2 * l.s + 1) (omega arith) (l.h - 1))
 
-pub slice_bounds-copy_from_slice-end-then-c-a : goal.slice_bounds-copy_from_slice-end-then-c-a
-slice_bounds-copy_from_slice-end-then-c-a c =
+pub slice_bounds-copy-end-then-c-a : goal.slice_bounds-copy-end-then-c-a
+slice_bounds-copy-end-then-c-a g c =
     let l = c.args.self.now in
     let k : ℕ = 2 * l.s + 1 in
     let n = length c.args.out.now in
-    let begin = last (goal.at.slice_bounds-copy_from_slice-end-then-c-a c).After-last_block-c in
+    let begin = last g (goal.at.slice_bounds-copy-end-then-c-a g c).After-last_block-c in
     let end = lt_start k (omega arith) (l.h - 1) in
     let room : k * n ≤ 61 * 1024 = mul-le-mul {n₂ = 61} {m₂ = 1024} (omega arith) (omega arith) in
     omega (arith, room, row_apart n (c.args.a - c.last_block-c.result) k (omega arith))
 
 pub returns : goal.returns
-returns c =
+returns g c =
     let a = c.args in
     let l = a.self.now in
     let k : ℕ = 2 * l.s + 1 in
     let n = length a.out.now in
-    let begin = last (goal.at.returns c).After-last_block-c in
-    let before = later (goal.at.returns c).Else-c-a in
+    let begin = last g (goal.at.returns g c).After-last_block-c in
+    let before = later g (goal.at.returns g c).Else-c-a in
     let low = start_le k (omega arith) (l.h - 1) in
     let room : k * n ≤ 61 * 1024 = mul-le-mul {n₂ = 61} {m₂ = 1024} (omega arith) (omega arith) in
     let inside = row_apart n (a.a + k - c.last_block-c.result) k (omega arith) in

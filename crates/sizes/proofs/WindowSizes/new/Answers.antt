@@ -7,5 +7,5 @@ use Rattle.sizes.proofs.WindowSizes.new.Goals as goal
 pub invariant_of-result : goal.invariant_of-result
 invariant_of-result c = record { known = table_none }
 
-pub returns : goal.returns
-returns c = record { long = refl; zero = zeros 1152 }
+pub returns-clause-blank : goal.returns-clause-blank
+returns-clause-blank c = record { long = refl; zero = zeros 1152 }

@@ -3,5 +3,5 @@ use mathlib.Core.Path.{refl}
 use Rattle.sums.proofs.Lent.{zeros}
 use Rattle.sums.proofs.SquareSums.new.Goals as goal
 
-pub returns : goal.returns
-returns c = (record { long = refl; zero = zeros 1152 }, record { long = refl; zero = zeros 1152 })
+pub returns-clause-blank : goal.returns-clause-blank
+returns-clause-blank c = (record { long = refl; zero = zeros 1152 }, record { long = refl; zero = zeros 1152 })
