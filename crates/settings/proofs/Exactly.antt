@@ -85,7 +85,8 @@ unfolding refusal_of
 empty_exactly field house name r w p q =
     let s = source_of field.now house.now name in
     let e = answered field.now house.now name s (came field.now house.now name) in
+    let n : why_said w ≡ said s = omega (arith, q) in
     record {
-      empty = λ h. ap length p.bytes ∙ e.empty (subst (λ (m : ℕ). 0 < m) q h);
-      refused = λ h. subst (λ (m : ℕ). 0 < m) (sym q) (e.refused (sym (ap length p.bytes) ∙ h));
+      empty = λ h. ap length p.bytes ∙ e.empty (subst (λ (m : ℕ). 0 < m) n h);
+      refused = λ h. subst (λ (m : ℕ). 0 < m) (sym n) (e.refused (sym (ap length p.bytes) ∙ h));
     }

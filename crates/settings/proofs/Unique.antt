@@ -1,7 +1,8 @@
 -- No second answer meets a promise: the part's bytes and the memory it lies in are fixed, and so is why there is none. Assumes nothing.
-use mathlib.Core.Path.{◌≡◌, refl, sym, ap, ◌∙◌}
+use mathlib.Core.Path.{◌≡◌, refl, sym, ap}
 use mathlib.Core.List.{List}
 use Prim.Native.Nat.{ℕ}
+use native.Mathlib.Omega.{arith}
 use denote.Ref.{Bor}
 use Rattle.std.specs.Prelude.{Option, Some, None}
 use Rattle.rules.specs.declared.Refusal.{Refusal}
@@ -19,4 +20,4 @@ why_one (Some e) None h = absurd (number_some e h)
 why_one (Some e) (Some f) h = ap Some (number_one e f h)
 
 pub refusal_one : (field house name : List ℕ) (w w' : Option Refusal) → Refuses field house name w → Refuses field house name w' → w ≡ w'
-refusal_one field house name w w' p q = why_one w w' (p ∙ sym q)
+refusal_one field house name w w' p q = why_one w w' (omega (arith, p, q))
