@@ -78,15 +78,19 @@ answered field house name (Ok (Field k)) (of_field g e) = full (value_in field k
 answered field house name (Ok (House k)) (of_house g n e) = full (value_in house k) (value_some house name g k e)
 answered field house name (Err e) refused = record { empty = λ l. refl; refused = λ l. number_positive e }
 
--- from the promises of the two calls: r is what `setting` returns, w what `setting_refusal` returns
-pub empty_exactly : (field house : Bor (List ℕ)) (name : List ℕ) (r : Bor (List ℕ)) (w : Option Refusal)
-    → Setting field house name r → Refuses field.now house.now name w → EmptyExactly r.now (why_said w)
+-- from the promise of `setting`: r is what it returns, n the number of the refusal, 0 where there is none
+pub empty_exactly : (field house : Bor (List ℕ)) (name : List ℕ) (r : Bor (List ℕ)) (n : ℕ)
+    → Setting field house name r → n ≡ refusal_of field.now house.now name → EmptyExactly r.now n
 unfolding refusal_of
-empty_exactly field house name r w p q =
+empty_exactly field house name r n p q =
     let s = source_of field.now house.now name in
     let e = answered field.now house.now name s (came field.now house.now name) in
-    let n : why_said w ≡ said s = omega (arith, q) in
     record {
-      empty = λ h. ap length p.bytes ∙ e.empty (subst (λ (m : ℕ). 0 < m) n h);
-      refused = λ h. subst (λ (m : ℕ). 0 < m) (sym n) (e.refused (sym (ap length p.bytes) ∙ h));
+      empty = λ h. ap length p.bytes ∙ e.empty (subst (λ (m : ℕ). 0 < m) q h);
+      refused = λ h. subst (λ (m : ℕ). 0 < m) (sym q) (e.refused (sym (ap length p.bytes) ∙ h));
     }
+
+-- from the promises of the two calls: w is what `setting_refusal` returns
+pub empty_refused : (field house : Bor (List ℕ)) (name : List ℕ) (r : Bor (List ℕ)) (w : Option Refusal)
+    → Setting field house name r → Refuses field.now house.now name w → EmptyExactly r.now (why_said w)
+empty_refused field house name r w p q = empty_exactly field house name r (why_said w) p (omega (arith, q))
